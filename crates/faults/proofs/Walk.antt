@@ -8,7 +8,7 @@ use Rattle.text.specs.Bytes.{Bytes, Part, mem}
 use Rattle.text.specs.Tree.{Line, Expr, Exprs, Stmt, Stmts, Methods, Tree, var, node, access, tuple, call, lambda, enil, econs, simple, assign, block, choice, for, def, class, snil, scons, mnil, mcons, lenE, lenS, lenSs, firstLine}
 use Rattle.faults.specs.Builtins.{builtinNames}
 use Rattle.faults.specs.Position.{Placed, Home, inModule, inDef, inMethod, Use, value, callee}
-use Rattle.faults.specs.Faults.{Fault, faultAt, unboundHere, undefinedHere, unless, lacksSelf, refusedAt, selfless}
+use Rattle.faults.specs.Faults.{Fault, faultAt, unboundHere, undefinedHere, unless, lacksSelf, refusedAt, selfless, capture}
 use Rattle.faults.specs.Rust.{collect-locals}
 
 -- ---- the state: the names in view, and the assigned names of the def or method
@@ -88,10 +88,11 @@ undefinedIn inside u inMethod t r = unless t (undefinedHere u r)
 abbrev pub test : Mode → Use → Home → Placed → Bool → Bool → Bool → Bool → List Fault
 test m u h r p o a v = cond p [] (cond o (unboundIn m u a r) (undefinedIn m u h v r))
 
--- of the captures of one lambda, the first with each name
+-- of the captures among the faults, the first with each name; seen are the names of those before
 abbrev pub once : List Part → List Fault → List Fault
 once seen [] = []
-once seen (f ∷ fs) = cond (mem (f .name .bytes) seen) (once seen fs) (f ∷ once (f .name ∷ seen) fs)
+once seen (f ∷ fs) =
+    cond (capture (f .kind)) (cond (mem (f .name .bytes) seen) (once seen fs) (f ∷ once (f .name ∷ seen) fs)) (f ∷ once seen fs)
 
 abbrev mutual
   pub walkE : Expr → ℕ → Use → Mode → Env → State → List Fault

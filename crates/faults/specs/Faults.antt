@@ -55,13 +55,17 @@ abbrev pub bindings : Tree → List Binding
 bindings t = givenTo t ++ boundIn (visited t)
 
 -- ---- the rules
+-- a binding stands earlier than line n
+abbrev pub earlier : ℕ → Binding → Bool
+earlier n b = leb (b .from) n
+
 abbrev pub among : ℕ → List ℕ → Bool
 among k [] = false
-among k (j ∷ js) = eqb k j || among k js
+among k (j ∷ js) = eqb j k || among k js
 
 -- a binding of x stands earlier than line n, in one of these blocks
 abbrev pub bound : Bytes → List ℕ → ℕ → List Binding → Bool
-bound x ks n bs = any (λ (b : Binding). same x (b .name .bytes) && (among (b .block) ks && leb (b .from) n)) bs
+bound x ks n bs = any (λ (b : Binding). earlier n b && (among (b .block) ks && same x (b .name .bytes))) bs
 
 -- "Its name is *in view* when a binding of it stands earlier in its block or in one around that."
 abbrev pub inView : Bytes → ℕ → Where → List Binding → Bool
@@ -74,7 +78,7 @@ lambdaParam x n w bs = bound x (numbers (w .lambdas)) n bs
 -- "The *own names* of a def are all names bound in its block, early or late"
 abbrev pub own : Home → Bytes → ℕ → List Binding → Bool
 own inModule x k bs = false
-own inDef x k bs = any (λ (b : Binding). same x (b .name .bytes) && eqb k (b .block)) bs
+own inDef x k bs = any (λ (b : Binding). eqb k (b .block) && same x (b .name .bytes)) bs
 own inMethod x k bs = false
 
 -- "A binding by def or class does not count (the Rust; Python differs)."
@@ -88,7 +92,7 @@ counts byTarget = true
 
 -- "An own name of a def is *assigned* when an earlier binding in that block is a parameter, `for` name or target."
 abbrev pub assigned : Bytes → ℕ → ℕ → List Binding → Bool
-assigned x k n bs = any (λ (b : Binding). same x (b .name .bytes) && (eqb k (b .block) && (leb (b .from) n && counts (b .how)))) bs
+assigned x k n bs = any (λ (b : Binding). earlier n b && (eqb k (b .block) && (same x (b .name .bytes) && counts (b .how)))) bs
 
 -- ---- faults
 -- "A fault is its kind, its place and, for 8 to 13, its read". `line` is the read; for 14 and 15, which have none, the place.

@@ -1,0 +1,120 @@
+-- Laws of lists and of names that the theorems about faults share.
+use Prim.Native.Nat.{ℕ, _+_, _≤_}
+use native.Mathlib.Omega.{arith}
+use mathlib.Core.Path.{_≡_, refl, sym, ap, ap₂, _∙_}
+use mathlib.Core.Bool.{Bool, true, false, cond, _&&_, _||_, or-assoc, false≢true}
+use mathlib.Core.List.{List, [], _∷_, _++_}
+use lib.Dec.{eqb}
+use lib.ListN.{length}
+use borrow.Author.Tests.{eqb-true, eqb-false, eq-eqb, ne-eqb}
+use Rattle.text.specs.Bytes.{Bytes, same, any, all}
+use Rattle.faults.specs.Position.{Visited}
+use Rattle.faults.specs.Faults.{Binding, Fault, faultOf, judge, keep}
+
+-- ---- tests
+pub and-split : (a b : Bool) → (a && b) ≡ true → (a ≡ true) × (b ≡ true)
+and-split true b e = (refl, e)
+and-split false b e = absurd (false≢true e)
+
+-- ---- names
+pub eqb-sym : (m n : ℕ) → eqb m n ≡ eqb n m
+eqb-sym m n = go (eqb m n) refl
+  where
+    go : (b : Bool) → eqb m n ≡ b → b ≡ eqb n m
+    go true e = sym (eq-eqb n m (sym (eqb-true m n e)))
+    go false e = sym (ne-eqb n m (λ q. eqb-false m n e (sym q)))
+
+pub same-sym : (x y : Bytes) → same x y ≡ same y x
+same-sym [] [] = refl
+same-sym [] (b ∷ y) = refl
+same-sym (a ∷ x) [] = refl
+same-sym (a ∷ x) (b ∷ y) = ap₂ _&&_ (eqb-sym a b) (same-sym x y)
+
+pub same-eq : (x y : Bytes) → same x y ≡ true → x ≡ y
+same-eq [] [] e = refl
+same-eq [] (b ∷ y) e = absurd (false≢true e)
+same-eq (a ∷ x) [] e = absurd (false≢true e)
+same-eq (a ∷ x) (b ∷ y) e = let s : (eqb a b ≡ true) × (same x y ≡ true) = and-split (eqb a b) (same x y) e in ap₂ _∷_ (eqb-true a b (s .0)) (same-eq x y (s .1))
+
+-- ---- any
+pub any-append : {A : Type 0} (p : A → Bool) (l m : List A) → any p (l ++ m) ≡ (any p l || any p m)
+any-append p [] m = refl
+any-append p (a ∷ l) m = ap (λ b. p a || b) (any-append p l m) ∙ sym (or-assoc (p a) (any p l) (any p m))
+
+-- some visited line has such a fault: such a fault is among theirs
+pub any-judge : (p : Fault → Bool) (bs : List Binding) (vs : List Visited) → any (λ (v : Visited). any p (faultOf bs v)) vs ≡ any p (judge bs vs)
+any-judge p bs [] = refl
+any-judge p bs (v ∷ vs) = ap (λ b. any p (faultOf bs v) || b) (any-judge p bs vs) ∙ sym (any-append p (faultOf bs v) (judge bs vs))
+
+-- ---- all
+pub data All {A : Type 0} (P : A → Type 0) : List A → Type 0 where
+  none : All P []
+  also : {a : A} {l : List A} → P a → All P l → All P (a ∷ l)
+
+pub all-append : {A : Type 0} {P : A → Type 0} {l m : List A} → All P l → All P m → All P (l ++ m)
+all-append none b = b
+all-append (also h a) b = also h (all-append a b)
+
+pub all-map : {A : Type 0} {P Q : A → Type 0} {l : List A} → ((a : A) → P a → Q a) → All P l → All Q l
+all-map f none = none
+all-map f (also {a} h r) = also (f a h) (all-map f r)
+
+pub all-two : {A : Type 0} (p : A → Bool) (l m : List A) → all p l ≡ true → all p m ≡ true → all p (l ++ m) ≡ true
+all-two p [] m h i = i
+all-two p (a ∷ l) m h i = let e : (p a ≡ true) × (all p l ≡ true) = and-split (p a) (all p l) h in ap₂ _&&_ (e .0) (all-two p l m (e .1) i)
+
+-- ---- keep
+-- of what is kept, the test is true
+pub keep-all : {A : Type 0} {R : A → Type 0} (q p : A → Bool) {l : List A} → All R l → ((a : A) → R a → q a ≡ true → p a ≡ true) → all p (keep q l) ≡ true
+keep-all q p none h = refl
+keep-all q p (also {a} {l} r s) h = go (q a) refl (keep-all q p s h)
+  where
+    go : (b : Bool) → q a ≡ b → all p (keep q l) ≡ true → all p (cond b (a ∷ keep q l) (keep q l)) ≡ true
+    go true e k = ap₂ _&&_ (h a r e) k
+    go false e k = k
+
+pub all-keep : {A : Type 0} {R : A → Type 0} (q : A → Bool) {l : List A} → All R l → All R (keep q l)
+all-keep q none = none
+all-keep {R} q (also {a} {l} r s) = go (q a) (all-keep q s)
+  where
+    go : (b : Bool) → All R (keep q l) → All R (cond b (a ∷ keep q l) (keep q l))
+    go true k = also r k
+    go false k = k
+
+pub keep-keep : {A : Type 0} (p q r : A → Bool) → ((a : A) → r a ≡ (q a && p a)) → (l : List A) → keep q (keep p l) ≡ keep r l
+keep-keep p q r h [] = refl
+keep-keep p q r h (a ∷ l) = go (p a) (q a) refl refl (keep-keep p q r h l)
+  where
+    go : (b c : Bool) → p a ≡ b → q a ≡ c → keep q (keep p l) ≡ keep r l → keep q (keep p (a ∷ l)) ≡ keep r (a ∷ l)
+    go true true d e k = rw (h a, d, e) (ap (λ m. a ∷ m) k)
+    go true false d e k = rw (h a, d, e) k
+    go false true d e k = rw (h a, d, e) k
+    go false false d e k = rw (h a, d, e) k
+
+pub keep-every : {A : Type 0} (l : List A) → keep (λ (a : A). true) l ≡ l
+keep-every [] = refl
+keep-every (a ∷ l) = ap (λ m. a ∷ m) (keep-every l)
+
+-- ---- how many pass a test
+abbrev pub count : {A : Type 0} → (A → Bool) → List A → ℕ
+count q l = length (keep q l)
+
+pub count-append : {A : Type 0} (q : A → Bool) (l m : List A) → count q (l ++ m) ≡ count q l + count q m
+count-append q [] m = omega arith
+count-append q (a ∷ l) m = go (q a) (count-append q l m)
+  where
+    go : (b : Bool) → count q (l ++ m) ≡ count q l + count q m → length (cond b (a ∷ keep q (l ++ m)) (keep q (l ++ m))) ≡ length (cond b (a ∷ keep q l) (keep q l)) + count q m
+    go true h = omega arith
+    go false h = h
+
+pub count-none : {A : Type 0} (q : A → Bool) {l : List A} → All (λ (a : A). q a ≡ false) l → count q l ≡ 0
+count-none q none = refl
+count-none q (also h r) = rw h (count-none q r)
+
+pub count-any : {A : Type 0} (q : A → Bool) (l : List A) → 1 ≤ count q l → any q l ≡ true
+count-any q [] h = absurd (omega arith)
+count-any q (a ∷ l) h = go (q a) h (count-any q l)
+  where
+    go : (b : Bool) → 1 ≤ length (cond b (a ∷ keep q l) (keep q l)) → (1 ≤ count q l → any q l ≡ true) → (b || any q l) ≡ true
+    go true h k = refl
+    go false h k = k h
