@@ -239,17 +239,20 @@ mutual
       (omega arith) (omega arith) (omega arith) (omega arith) (omega arith) (omega arith) (rangeSs b n1 k h) r2 in
       range-two k n m (suc m) (suc n) (suc n + lenE c) (suc n + lenE c) n1 m (suc m) (bindsE c (suc n)) (bindsSs b n1 k h ++ (bindsSs d n2 k h ++ bindsSs e n3 k h))
       (omega arith) (omega arith) (omega arith) (omega arith) (omega arith) (omega arith) (rangeE c (suc n) k) r1
-  rangeS (for l e b) n k h =
-      (range-one byFor k n _ _ (suc n + lenE e) (l .name) (omega arith) (omega arith),
-      range-two k n _ _ (suc n) _ _ (suc n + lenE e) _ _ (bindsE e (suc n)) (bindsSs b (suc n + lenE e) k h)
-      (omega arith) (omega arith) (omega arith) (omega arith) (omega arith) (omega arith) (rangeE e (suc n) k) (rangeSs b (suc n + lenE e) k h))
-  rangeS (def l b) n k h =
-      (range-one byDef k n _ _ (suc n) (l .name) (omega arith) (omega arith),
-      range-block k n (lenSs b) (l .params) (bindsSs b (suc n) n inDef) (rangeSs b (suc n) n inDef))
-  rangeS (class l ms ats) n k h =
-      (range-one byClass k n _ _ (suc n) (l .name) (omega arith) (omega arith),
-      range-class h k n (n + lenS (class l ms ats)) (suc (n + lenS (class l ms ats))) (bindsMs ms (suc n))
-      (wide k (suc n) _ _ n _ _ (bindsMs ms (suc n)) (omega arith) (omega arith) (omega arith) (rangeMs ms (suc n) k)))
+  rangeS (for l e b) n k h = (
+    range-one byFor k n _ _ (suc n + lenE e) (l .name) (omega arith) (omega arith),
+    range-two k n _ _ (suc n) _ _ (suc n + lenE e) _ _ (bindsE e (suc n)) (bindsSs b (suc n + lenE e) k h)
+        (omega arith) (omega arith) (omega arith) (omega arith) (omega arith) (omega arith) (rangeE e (suc n) k) (rangeSs b (suc n + lenE e) k h),
+  )
+  rangeS (def l b) n k h = (
+    range-one byDef k n _ _ (suc n) (l .name) (omega arith) (omega arith),
+    range-block k n (lenSs b) (l .params) (bindsSs b (suc n) n inDef) (rangeSs b (suc n) n inDef),
+  )
+  rangeS (class l ms ats) n k h = (
+    range-one byClass k n _ _ (suc n) (l .name) (omega arith) (omega arith),
+    range-class h k n (n + lenS (class l ms ats)) (suc (n + lenS (class l ms ats))) (bindsMs ms (suc n))
+        (wide k (suc n) _ _ n _ _ (bindsMs ms (suc n)) (omega arith) (omega arith) (omega arith) (rangeMs ms (suc n) k)),
+  )
 
   pub rangeSs : (ss : Stmts) (n k : ℕ) (h : Home) → Range k n (n + lenSs ss) (suc (n + lenSs ss)) (bindsSs ss n k h)
   rangeSs snil n k h = tt

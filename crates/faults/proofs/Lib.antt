@@ -9,4 +9,5 @@ pub mod Once
 pub mod Listed
 pub mod Bound
 pub mod Raw
+pub mod Order
 pub mod Scripts

@@ -400,8 +400,12 @@ module _ (B : List Binding) where
     bound-asg : (x : Bytes) → assigned x (w .block) r B ≡ (assigned x (w .block) n B || same x (y .bytes) && counts h)
     bound-asg x =
         o r p q (λ b. eqb (w .block) (b .block) && (same x (b .name .bytes) && counts (b .how)))
-        ∙ rw (leb-yes f r pf, eqb-same (w .block),
-          still-none n r _ D (in-block n (w .block) (λ b. same x (b .name .bytes) && counts (b .how)) (a .below .0)) t, or-false)
+        ∙ rw (
+          leb-yes f r pf,
+          eqb-same (w .block),
+          still-none n r _ D (in-block n (w .block) (λ b. same x (b .name .bytes) && counts (b .how)) (a .below .0)) t,
+          or-false,
+        )
 
     bound-at : (s′ : State) → s′ .view ≡ y ∷ s .view → ((x : Bytes) → mem x (s′ .assigned) ≡ assigned x (w .block) r B) → At r w v s′
     bound-at s′ e g =
@@ -442,7 +446,7 @@ module _ (B : List Binding) where
       let l : w .block < n = a .below .0 in
       let i : ℕ = suc n + lenE e in
       let at : (r : ℕ) → n ≤ r → r ≤ i → At r w v s = λ r x y. still n m r w v s (bindsE e (suc n) ++ c) x (omega arith) z (o .adds)
-          (each-append (Still n r) (bindsE e (suc n)) c (still-blocks (suc n) i i r (bindsE e (suc n)) (rangeE e (suc n)) n (omega arith)) (still-later k i m (suc m) r n c y rc)) a in
+      (each-append (Still n r) (bindsE e (suc n)) c (still-blocks (suc n) i i r (bindsE e (suc n)) (rangeE e (suc n)) n (omega arith)) (still-later k i m (suc m) r n c y rc)) a in
       record {
         faults = mainE e (suc n) value w v s (owns-first k n (suc n) i m m (suc m) (bindsE e (suc n)) c (λ t x y e. omega arith) (omega arith) p rc (o .owns)) (λ r x y. at r (omega arith) (omega arith));
         next = at i (omega arith) (omega arith);
@@ -558,11 +562,11 @@ module _ (B : List Binding) where
         let lk : w .block < n = a .below .0 in
         let r3 = wide k n3 (n3 + lenSs e) (suc (n3 + lenSs e)) n3 m (suc m) (bindsSs e n3 k h) (omega arith) (omega arith) (omega arith) (rangeSs e n3 k h) in
         let r2 = each-append (In k n2 m (suc m)) (bindsSs d n2 k h) (bindsSs e n3 k h)
-            (wide k n2 (n2 + lenSs d) (suc (n2 + lenSs d)) n2 m (suc m) (bindsSs d n2 k h) (omega arith) (omega arith) (omega arith) (rangeSs d n2 k h))
-            (wide k n3 m (suc m) n2 m (suc m) (bindsSs e n3 k h) (omega arith) (omega arith) (omega arith) r3) in
+        (wide k n2 (n2 + lenSs d) (suc (n2 + lenSs d)) n2 m (suc m) (bindsSs d n2 k h) (omega arith) (omega arith) (omega arith) (rangeSs d n2 k h))
+        (wide k n3 m (suc m) n2 m (suc m) (bindsSs e n3 k h) (omega arith) (omega arith) (omega arith) r3) in
         let r1 = each-append (In k n1 m (suc m)) (bindsSs b n1 k h) (bindsSs d n2 k h ++ bindsSs e n3 k h)
-            (wide k n1 (n1 + lenSs b) (suc (n1 + lenSs b)) n1 m (suc m) (bindsSs b n1 k h) (omega arith) (omega arith) (omega arith) (rangeSs b n1 k h))
-            (wide k n2 m (suc m) n1 m (suc m) (bindsSs d n2 k h ++ bindsSs e n3 k h) (omega arith) (omega arith) (omega arith) r2) in
+        (wide k n1 (n1 + lenSs b) (suc (n1 + lenSs b)) n1 m (suc m) (bindsSs b n1 k h) (omega arith) (omega arith) (omega arith) (rangeSs b n1 k h))
+        (wide k n2 m (suc m) n1 m (suc m) (bindsSs d n2 k h ++ bindsSs e n3 k h) (omega arith) (omega arith) (omega arith) r2) in
         let t = value-step c n m w v s (bindsSs b n1 k h ++ (bindsSs d n2 k h ++ bindsSs e n3 k h)) (omega arith) z r1 o a in
         let o2 = rest k n1 n2 m (bindsSs b n1 k h) (bindsSs d n2 k h ++ bindsSs e n3 k h) (omega arith) (omega arith) (omega arith) (rangeSs b n1 k h) r2 (t .rest-of) in
         let tb = mainSs b n1 n2 w v s (omega arith) z (first k n1 n2 m (bindsSs b n1 k h) (bindsSs d n2 k h ++ bindsSs e n3 k h) (omega arith) (omega arith) (omega arith) (rangeSs b n1 k h) r2 (t .rest-of)) (t .next) in
@@ -586,11 +590,11 @@ module _ (B : List Binding) where
         let later-b : (r : ℕ) → r ≤ i → Each (Still n r) (bindsSs b i k h) = λ r x. still-later k i m (suc m) r n (bindsSs b i k h) x rb in
         let ye : (r : ℕ) → r < i → Each (Still n r) (y ∷ []) = λ r x. still-later k r m (suc i) r n (y ∷ []) (omega arith) (record { low = omega arith; high = omega arith; block = λ j x u. x }, tt) in
         let oe = owns-rest k n (suc n) (suc n) i i (suc i) (y ∷ []) (bindsE e (suc n)) (λ t x u f. omega arith) (omega arith) (omega arith) (yr (suc n))
-            (owns-first k n (suc n) i m m (suc m) (y ∷ bindsE e (suc n)) (bindsSs b i k h) (λ t x u f. omega arith) (omega arith) (omega arith) rb (o .owns)) in
+        (owns-first k n (suc n) i m m (suc m) (y ∷ bindsE e (suc n)) (bindsSs b i k h) (λ t x u f. omega arith) (omega arith) (omega arith) rb (o .owns)) in
         let at : (r : ℕ) → suc n ≤ r → r < i → At r w v s = λ r x u. still n m r w v s (y ∷ (bindsE e (suc n) ++ bindsSs b i k h)) (omega arith) (omega arith) z (o .adds)
-            (each-append (Still n r) (y ∷ []) (bindsE e (suc n) ++ bindsSs b i k h) (ye r u) (each-append (Still n r) (bindsE e (suc n)) (bindsSs b i k h) (quiet-e r) (later-b r (omega arith)))) a in
+        (each-append (Still n r) (y ∷ []) (bindsE e (suc n) ++ bindsSs b i k h) (ye r u) (each-append (Still n r) (bindsE e (suc n)) (bindsSs b i k h) (quiet-e r) (later-b r (omega arith)))) a in
         let ai = assigned-at byFor (l .name) i n m i w v s (bindsE e (suc n) ++ bindsSs b i k h) (omega arith) (omega arith) (omega arith) z (o .adds)
-            (each-append (Still n i) (bindsE e (suc n)) (bindsSs b i k h) (quiet-e i) (later-b i (omega arith))) a refl in
+        (each-append (Still n i) (bindsE e (suc n)) (bindsSs b i k h) (quiet-e i) (later-b i (omega arith))) a refl in
         let u = mainSs b i m w v (assigning (l .name) s) (omega arith) z (rest k n i m (y ∷ bindsE e (suc n)) (bindsSs b i k h) lk (omega arith) (omega arith) re rb o) ai in
         record { faults = judge-two B (linesE e (suc n) value w) (linesSs b i w) _ _ (mainE e (suc n) value w v s oe at) (u .faults); next = u .next }
     mainS (def l b) n m w v s p z o a =
@@ -602,9 +606,9 @@ module _ (B : List Binding) where
         let at : (r : ℕ) → n < r → r ≤ m → At r w v (naming (l .name) s) = λ r x y. named-at byDef (l .name) (suc n) n m r w v s D x (omega arith) y z (o .adds) (still-blocks n i (suc i) r D q n (omega arith)) a refl in
         let ow = block-owns k n m byDef (suc n) (l .name) D lk (omega arith) (o .owns) in
         let u = mainSs b (suc n) m (underBlock inDef n w) (defEnv l b) (entered (l .params) (naming (l .name) s)) (omega arith) refl
-            (body k n m _ _ (bind byDef k (suc n) (l .name) ∷ params n l) (bindsSs b (suc n) n inDef) lk (omega arith)
-            (record { low = omega arith; high = omega arith; block = λ j x u. x }, range-params k n (suc n) (suc (suc n)) (l .params) (omega arith) (omega arith)) (rangeSs b (suc n) n inDef) o)
-            (enter inDef n _ _ (l .params) (l .params ++ collect-locals b) w v (naming (l .name) s) (bindsSs b (suc n) n inDef) ow (rangeSs b (suc n) n inDef) (def-own n l b ow) (at (suc n) (omega arith) (omega arith))) in
+        (body k n m _ _ (bind byDef k (suc n) (l .name) ∷ params n l) (bindsSs b (suc n) n inDef) lk (omega arith)
+        (record { low = omega arith; high = omega arith; block = λ j x u. x }, range-params k n (suc n) (suc (suc n)) (l .params) (omega arith) (omega arith)) (rangeSs b (suc n) n inDef) o)
+        (enter inDef n _ _ (l .params) (l .params ++ collect-locals b) w v (naming (l .name) s) (bindsSs b (suc n) n inDef) ow (rangeSs b (suc n) n inDef) (def-own n l b ow) (at (suc n) (omega arith) (omega arith))) in
         record { faults = u .faults; next = at m (omega arith) (omega arith) }
     mainS (class l ms ats) n m w v s p z o a =
         let k : ℕ = w .block in
@@ -615,7 +619,7 @@ module _ (B : List Binding) where
         let q : (j : ℕ) → Range j (suc n) i (suc i) (inClassesB (w .home) D) = λ j. range-class (w .home) j (suc n) i (suc i) D (rangeMs ms (suc n) j) in
         let at : (r : ℕ) → n < r → r ≤ m → At r w v (naming (l .name) s) = λ r x u. named-at byClass (l .name) (suc n) n m r w v s (inClassesB (w .home) D) x (omega arith) u z (o .adds) (still-blocks (suc n) i (suc i) r (inClassesB (w .home) D) q n (omega arith)) a refl in
         let os : w .home ≡ inModule → Covers (suc n) m D = λ e. rest k n (suc n) m (y ∷ []) D lk (omega arith) (omega arith) (record { low = omega arith; high = omega arith; block = λ j x u. x }, tt)
-            (wide k (suc n) i (suc i) (suc n) m (suc m) D (omega arith) (omega arith) (omega arith) (rangeMs ms (suc n) k)) (subst (λ h. Covers n m (y ∷ inClassesB h D)) e o) in
+        (wide k (suc n) i (suc i) (suc n) m (suc m) D (omega arith) (omega arith) (omega arith) (rangeMs ms (suc n) k)) (subst (λ h. Covers n m (y ∷ inClassesB h D)) e o) in
         record {
           faults = judge-class B (w .home) (linesMs ms (suc n) l w) (linesAs ats i w) (rawMs ms (suc n) l (naming (l .name) s))
               (λ e. mainMs ms (suc n) m l w v (naming (l .name) s) (omega arith) z (os e) (at (suc n) (omega arith) (omega arith))) (judge-attrs B ats i w)
@@ -653,8 +657,8 @@ module _ (B : List Binding) where
         let ob = first k n i m D M lk (omega arith) (omega arith) qa qm o in
         let at : (r : ℕ) → n ≤ r → r ≤ i → At r w v s = λ r x u. still n i r w v s D x u z (ob .adds) (still-blocks n (n + suc (lenSs b)) (suc (n + suc (lenSs b))) r D q n (omega arith)) a in
         let t = mainSs b (suc n) i (underBlock inMethod n w) methodEnv (entered (l .params) s) (omega arith) refl
-            (body k n i _ _ (params n l) Db lk (omega arith) (range-params k n (suc n) (suc (suc n)) (l .params) (omega arith) (omega arith)) (rangeSs b (suc n) n inMethod) ob)
-            (enter inMethod n _ _ (l .params) [] w v s Db (λ f. ob .owns n (omega arith) (omega arith) f) (rangeSs b (suc n) n inMethod) (λ x. refl) (at (suc n) (omega arith) (omega arith))) in
+        (body k n i _ _ (params n l) Db lk (omega arith) (range-params k n (suc n) (suc (suc n)) (l .params) (omega arith) (omega arith)) (rangeSs b (suc n) n inMethod) ob)
+        (enter inMethod n _ _ (l .params) [] w v s Db (λ f. ob .owns n (omega arith) (omega arith) f) (rangeSs b (suc n) n inMethod) (λ x. refl) (at (suc n) (omega arith) (omega arith))) in
         ap (λ y. selfFault n l c ++ y)
         (judge-two B (linesSs b (suc n) (underBlock inMethod n w)) (linesMs ms i c w) _ _ (t .faults)
         (mainMs ms i m c w v s (omega arith) z (rest k n i m D M lk (omega arith) (omega arith) qa qm o) (at i (omega arith) (omega arith))))
@@ -686,9 +690,9 @@ module _ (ps : List Part) (ss : Stmts) (n : ℕ) (l : 1 < n) where
       let B : List Binding = givens ps ++ D in
       let r = rangeSs ss n 1 inModule in
       let at : (i : ℕ) → n ≤ i → (f : Binding → Bool) → any (λ b. earlier i b && f b) B ≡ (any f (givens ps) || any (λ b. earlier i b && f b) D) =
-          λ i p f. any-append _ (givens ps) D ∙ ap (λ t. t || any (λ b. earlier i b && f b) D) (given-earlier ps i (omega arith) f) in
+      λ i p f. any-append _ (givens ps) D ∙ ap (λ t. t || any (λ b. earlier i b && f b) D) (given-earlier ps i (omega arith) f) in
       let start : (f : Binding → Bool) → any (λ b. earlier n b && f b) B ≡ any f (givens ps) =
-          λ f. at n (omega arith) f ∙ ap (λ t. any f (givens ps) || t) (not-yet B 1 n _ _ n D (omega arith) r f) ∙ or-false _ in
+      λ f. at n (omega arith) f ∙ ap (λ t. any f (givens ps) || t) (not-yet B 1 n _ _ n D (omega arith) r f) ∙ or-false _ in
       mainSs B ss n (n + lenSs ss) atModule moduleEnv (record { view = ps; assigned = [] }) (omega arith) refl
       (record {
         adds = λ i p q f. at i p f ∙ ap (λ t. t || any (λ b. earlier i b && f b) D) (sym (start f));
