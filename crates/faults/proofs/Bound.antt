@@ -11,7 +11,7 @@ use Rattle.text.specs.Bytes.{Part, any}
 use Rattle.text.specs.Tree.{Line, Expr, Exprs, Attrs, Stmt, Stmts, Methods, var, node, access, tuple, call, lambda, enil, econs, anil, acons, simple, assign, block, choice, for, def, class, snil, scons, mnil, mcons, belowE, lenE, lenEs, lenAs, lenS, lenSs, lenMs}
 use Rattle.faults.specs.Position.{Placed, Home, inModule, inDef, inMethod, Where, Use, value, callee, Visited, underClass, linesE, linesEs, linesT, linesTs, linesAs, linesS, linesSs, linesMs, underLambda, underBlock}
 use Rattle.faults.specs.Faults.{How, byDef, byClass, byParam, byFor, byTarget, Binding, bind, params, boundAt, boundIn}
-use Rattle.faults.proofs.Any.{Each, each-append, each-map, any-quiet, eqb-other}
+use Rattle.faults.proofs.Lists.{Each, each-append, each-map}
 
 -- ---- the bindings of a part that begins at line n; k is the block around it
 abbrev mutual

@@ -1,13 +1,16 @@
--- Theorems about the faults of a tree.
-pub mod Any
+-- The proofs. Theorems states what is proved, for every tree; Scripts has document 01's examples.
+pub mod Theorems
+pub mod Scripts
 pub mod Lists
 pub mod Read
 pub mod Ascending
 pub mod Places
-pub mod Walk
 pub mod Once
 pub mod Listed
+pub mod Walk
 pub mod Bound
 pub mod Raw
 pub mod Order
-pub mod Scripts
+pub mod Stack
+pub mod Captured
+pub mod First

@@ -5,7 +5,7 @@ use Prim.Native.Nat.{ℕ, zero, suc, _+_, _≤_, _<_}
 use native.Mathlib.Omega.{arith}
 use native.Mathlib.Nat.{le-refl}
 use mathlib.Core.Path.{_≡_, refl, sym, ap, ap₂, _∙_}
-use mathlib.Core.Bool.{Bool, true, false, cond, not, _&&_, _||_, and-assoc, or-true}
+use mathlib.Core.Bool.{Bool, true, false, cond, not, _&&_, _||_, or-true}
 use mathlib.Core.List.{List, [], _∷_, _++_}
 use lib.Dec.{eqb, ltb}
 use lib.ListN.{length}
@@ -13,24 +13,11 @@ use borrow.Author.Tests.{eqb-true, eqb-false, eq-eqb, ne-eqb, lt-ltb}
 use Rattle.text.specs.Bytes.{any, all}
 use Rattle.text.specs.Tree.{Tree, lenSs, firstLine}
 use Rattle.faults.specs.Position.{visited}
-use Rattle.faults.specs.Faults.{bindings, Fault, judge, repeated, keep, byPlace, faults, isFault}
+use Rattle.faults.specs.Faults.{bindings, Fault, is, judge, repeated, keep, byPlace, faults, isFault, before, ordered}
 use Rattle.faults.proofs.Lists.{and-split, any-judge, none, also, all-map, all-two, keep-all, all-keep, keep-keep, keep-every, count, count-append, count-none, count-any}
 use Rattle.faults.proofs.Ascending.{end, next, ascend-length, ascend-keep, ascend-above, Lined, faults-ascend}
 use Rattle.faults.proofs.Once.{placed}
 use Rattle.faults.proofs.Places.{PlacedWithin, faults-within}
-
--- the fault of this kind, place and read
-abbrev pub is : ℕ → ℕ → ℕ → Fault → Bool
-is k p r f = eqb k (f .kind) && (eqb p (f .place) && eqb r (f .line))
-
--- by place, then by line
-abbrev pub before : Fault → Fault → Bool
-before f g = ltb (f .place) (g .place) || (eqb (f .place) (g .place) && ltb (f .line) (g .line))
-
--- each before all that follow
-abbrev pub ordered : List Fault → Bool
-ordered [] = true
-ordered (f ∷ fs) = all (before f) fs && ordered fs
 
 -- ---- to sort by place is to rearrange
 place-below : (n m : ℕ) (f : Fault) (fs : List Fault) → f .place < n → byPlace n m (f ∷ fs) ≡ byPlace n m fs
@@ -124,21 +111,18 @@ unsorted-count t q = byPlace-count q (firstLine t) (lenSs (t .body)) (all-keep (
 pub listed-once : (t : Tree) (k p r : ℕ) → length (keep (is k p r) (faults t)) ≡ cond (isFault t k p r) 1 0
 listed-once t k p r =
     unsorted-count t (is k p r)
-    ∙ ap length (keep-keep (fresh t) (is k p r) fault regroup (judge (bindings t) (visited t)))
+    ∙ ap length (keep-keep (fresh t) (is k p r) fault (λ f. refl) (judge (bindings t) (visited t)))
     ∙ one-on-line fault r on-line (faults-ascend t)
     ∙ ap (λ b. cond b 1 0) (sym (any-judge fault (bindings t) (visited t)))
   where
     fault : Fault → Bool
-    fault f = eqb k (f .kind) && (eqb p (f .place) && (eqb r (f .line) && fresh t f))
-
-    regroup : (f : Fault) → fault f ≡ (is k p r f && fresh t f)
-    regroup f = simp and-assoc
+    fault f = is k p r f && fresh t f
 
     on-line : (f : Fault) → fault f ≡ true → f .line ≡ r
     on-line f e =
-        let a = and-split (eqb k (f .kind)) (eqb p (f .place) && (eqb r (f .line) && fresh t f)) e in
-        let b = and-split (eqb p (f .place)) (eqb r (f .line) && fresh t f) (a .1) in
-        sym (eqb-true r (f .line) (and-split (eqb r (f .line)) (fresh t f) (b .1) .0))
+        let a = and-split (is k p r f) (fresh t f) e in
+        let b = and-split (eqb k (f .kind)) (eqb p (f .place) && eqb r (f .line)) (a .0) in
+        sym (eqb-true r (f .line) (and-split (eqb p (f .place)) (eqb r (f .line)) (b .1) .1))
 
 pub faults-are-listed : (t : Tree) (k p r : ℕ) → isFault t k p r ≡ true → any (is k p r) (faults t) ≡ true
 faults-are-listed t k p r e = count-any (is k p r) (faults t) (let h : count (is k p r) (faults t) ≡ 1 = listed-once t k p r ∙ ap (λ b. cond b 1 0) e in omega arith)

@@ -1,13 +1,13 @@
--- Laws of lists and of names that the theorems about faults share.
+-- Laws of tests, names and lists that the theorems about faults share.
 use Prim.Native.Nat.{ℕ, _+_, _≤_}
 use native.Mathlib.Omega.{arith}
 use mathlib.Core.Path.{_≡_, refl, sym, ap, ap₂, _∙_}
-use mathlib.Core.Bool.{Bool, true, false, cond, _&&_, _||_, or-assoc, false≢true}
+use mathlib.Core.Bool.{Bool, true, false, cond, _&&_, _||_, or-assoc, or-true, false≢true}
 use mathlib.Core.List.{List, [], _∷_, _++_}
 use lib.Dec.{eqb}
 use lib.ListN.{length}
 use borrow.Author.Tests.{eqb-true, eqb-false, eq-eqb, ne-eqb}
-use Rattle.text.specs.Bytes.{Bytes, same, any, all}
+use Rattle.text.specs.Bytes.{Bytes, Part, same, mem, any, all}
 use Rattle.faults.specs.Position.{Visited}
 use Rattle.faults.specs.Faults.{Binding, Fault, faultOf, judge, keep}
 
@@ -15,6 +15,9 @@ use Rattle.faults.specs.Faults.{Binding, Fault, faultOf, judge, keep}
 pub and-split : (a b : Bool) → (a && b) ≡ true → (a ≡ true) × (b ≡ true)
 and-split true b e = (refl, e)
 and-split false b e = absurd (false≢true e)
+
+pub eqb-same : (k : ℕ) → eqb k k ≡ true
+eqb-same k = eq-eqb k k refl
 
 -- ---- names
 pub eqb-sym : (m n : ℕ) → eqb m n ≡ eqb n m
@@ -36,10 +39,32 @@ same-eq [] (b ∷ y) e = absurd (false≢true e)
 same-eq (a ∷ x) [] e = absurd (false≢true e)
 same-eq (a ∷ x) (b ∷ y) e = let s : (eqb a b ≡ true) × (same x y ≡ true) = and-split (eqb a b) (same x y) e in ap₂ _∷_ (eqb-true a b (s .0)) (same-eq x y (s .1))
 
+pub mem-append : (x : Bytes) (a b : List Part) → mem x (a ++ b) ≡ (mem x a || mem x b)
+mem-append x [] b = refl
+mem-append x (y ∷ a) b = ap (λ t. same x (y .bytes) || t) (mem-append x a b) ∙ sym (or-assoc (same x (y .bytes)) (mem x a) (mem x b))
+
 -- ---- any
-pub any-append : {A : Type 0} (p : A → Bool) (l m : List A) → any p (l ++ m) ≡ (any p l || any p m)
-any-append p [] m = refl
-any-append p (a ∷ l) m = ap (λ b. p a || b) (any-append p l m) ∙ sym (or-assoc (p a) (any p l) (any p m))
+or-swap : (a b c d : Bool) → (a || b || (c || d)) ≡ (a || c || (b || d))
+or-swap true b c d = refl
+or-swap false b true d = or-true b
+or-swap false b false d = refl
+
+module _ {A : Type 0} where
+  pub any-append : (f : A → Bool) (a b : List A) → any f (a ++ b) ≡ (any f a || any f b)
+  any-append f [] b = refl
+  any-append f (e ∷ a) b = ap (λ t. f e || t) (any-append f a b) ∙ sym (or-assoc (f e) (any f a) (any f b))
+
+  pub any-same : (f g : A → Bool) → ((a : A) → f a ≡ g a) → (l : List A) → any f l ≡ any g l
+  any-same f g h [] = refl
+  any-same f g h (a ∷ l) = ap₂ _||_ (h a) (any-same f g h l)
+
+  pub any-or : (f g : A → Bool) (l : List A) → any (λ a. f a || g a) l ≡ (any f l || any g l)
+  any-or f g [] = refl
+  any-or f g (a ∷ l) = ap (λ t. f a || g a || t) (any-or f g l) ∙ or-swap (f a) (g a) (any f l) (any g l)
+
+  pub any-none : (f : A → Bool) → ((a : A) → f a ≡ false) → (l : List A) → any f l ≡ false
+  any-none f h [] = refl
+  any-none f h (a ∷ l) = ap₂ _||_ (h a) (any-none f h l)
 
 -- some visited line has such a fault: such a fault is among theirs
 pub any-judge : (p : Fault → Bool) (bs : List Binding) (vs : List Visited) → any (λ (v : Visited). any p (faultOf bs v)) vs ≡ any p (judge bs vs)
@@ -62,6 +87,28 @@ all-map f (also {a} h r) = also (f a h) (all-map f r)
 pub all-two : {A : Type 0} (p : A → Bool) (l m : List A) → all p l ≡ true → all p m ≡ true → all p (l ++ m) ≡ true
 all-two p [] m h i = i
 all-two p (a ∷ l) m h i = let e : (p a ≡ true) × (all p l ≡ true) = and-split (p a) (all p l) h in ap₂ _&&_ (e .0) (all-two p l m (e .1) i)
+
+-- a property of each element, by the list's shape
+module _ {A : Type 0} where
+  abbrev pub Each : (A → Type 0) → List A → Type 0
+  Each P [] = Unit {0}
+  Each P (a ∷ l) = P a × Each P l
+
+  pub each-append : (P : A → Type 0) (a b : List A) → Each P a → Each P b → Each P (a ++ b)
+  each-append P [] b p q = q
+  each-append P (x ∷ a) b p q = (p .0, each-append P a b (p .1) q)
+
+  pub each-map : (P Q : A → Type 0) → ((a : A) → P a → Q a) → (l : List A) → Each P l → Each Q l
+  each-map P Q h [] p = tt
+  each-map P Q h (a ∷ l) p = (h a (p .0), each-map P Q h l (p .1))
+
+  pub any-each : (f g : A → Bool) (l : List A) → Each (λ a. f a ≡ g a) l → any f l ≡ any g l
+  any-each f g [] p = refl
+  any-each f g (a ∷ l) p = ap₂ _||_ (p .0) (any-each f g l (p .1))
+
+  pub any-quiet : (f : A → Bool) (l : List A) → Each (λ a. f a ≡ false) l → any f l ≡ false
+  any-quiet f [] p = refl
+  any-quiet f (a ∷ l) p = ap₂ _||_ (p .0) (any-quiet f l (p .1))
 
 -- ---- keep
 -- of what is kept, the test is true

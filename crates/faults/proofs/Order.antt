@@ -13,7 +13,8 @@ use Rattle.text.specs.Bytes.{Part, mem}
 use Rattle.text.specs.Tree.{Line, Expr, Exprs, Stmt, Stmts, Methods, Tree, var, node, access, tuple, call, lambda, enil, econs, simple, assign, block, choice, for, def, class, snil, scons, mnil, mcons, lenE, lenEs, lenAs, lenS, lenSs, lenMs, firstLine}
 use Rattle.faults.specs.Position.{Placed, Home, inModule, inDef, inMethod, Use, value, callee, visited}
 use Rattle.faults.specs.Faults.{Fault, faultAt, outermost, unboundHere, undefinedHere, judgeRead, lacksSelf, refusedAt, selfless, unless, bindings, judge, faults}
-use Rattle.faults.proofs.Any.{eqb-same, eqb-other}
+use borrow.Author.Tests.{ne-eqb}
+use Rattle.faults.proofs.Lists.{eqb-same}
 use Rattle.faults.proofs.Walk.{State, assigning, naming, entered, afterT, afterS, afterSs, Mode, plain, captures, inside, Env, withParams, defEnv, methodEnv, moduleEnv, inClasses, selfFault, test, once, walkE, walkEs, walkT, walkTs, walkS, walkSs, walkMs, startState, walk}
 use Rattle.faults.proofs.Once.{placed, byPlaceOnce, faults-once}
 use Rattle.faults.proofs.Raw.{rawE, rawEs, rawT, rawTs, rawS, rawSs, rawMs, raw-faults}
@@ -104,7 +105,7 @@ lam-not n l (k ∷ ks) i b = λ e. omega arith
 
 -- a fault at one place alone, at no other line
 one-else : (f : Fault) (l : ℕ) → l ≢ f .place → placed l (f ∷ []) ≡ []
-one-else f l d = rw (eqb-other l (f .place) d)
+one-else f l d = rw (ne-eqb l (f .place) d)
 
 show-none : (u : Use) (n : ℕ) → lead u [] ++ byPlaceOnce n 1 [] ≡ []
 show-none value n = refl
@@ -112,11 +113,11 @@ show-none (callee c) n = refl
 
 show-away : (u : Use) (n : ℕ) (k : Placed) (ks : List Placed) (f : Fault) → outermost k ks .number < n → UseOk (k ∷ ks) u n → f .place ≡ outermost k ks .number
     → lead u (f ∷ []) ++ byPlaceOnce n 1 (f ∷ []) ≡ []
-show-away value n k ks f b o p = rw (p, eqb-other n (outermost k ks .number) (λ e. omega arith))
+show-away value n k ks f b o p = rw (p, ne-eqb n (outermost k ks .number) (λ e. omega arith))
 show-away (callee c) n k ks f b o p =
     let l : outermost k ks .number < c .number = o .0 in
     let m : c .number < n = o .1 in
-    rw (p, eqb-other n (outermost k ks .number) (λ e. omega arith), eqb-other (c .number) (outermost k ks .number) (λ e. omega arith))
+    rw (p, ne-eqb n (outermost k ks .number) (λ e. omega arith), ne-eqb (c .number) (outermost k ks .number) (λ e. omega arith))
 
 -- the fault of a read where it stands, for its value or as a callee: kinds i and j
 module _ (i j : ℕ) (r : Placed) (oi : once [] (faultAt i r r ∷ []) ≡ faultAt i r r ∷ []) (oj : (c : Placed) → once [] (faultAt j c r ∷ []) ≡ faultAt j c r ∷ []) where
@@ -128,7 +129,7 @@ module _ (i j : ℕ) (r : Placed) (oi : once [] (faultAt i r r ∷ []) ≡ fault
   here-shown value ls o = rw (eqb-same (r .number)) (ap (λ x. x ++ []) oi)
   here-shown (callee c) ls o =
       let l : c .number < r .number = o .1 in
-      rw (eqb-same (c .number), eqb-other (r .number) (c .number) (λ e. omega arith)) (ap (λ x. x ++ []) (oj c))
+      rw (eqb-same (c .number), ne-eqb (r .number) (c .number) (λ e. omega arith)) (ap (λ x. x ++ []) (oj c))
 
 -- which faults a read has, where it stands and under lambdas
 unbound-shown : (u : Use) (r : Placed) (ls : List Placed) → UseOk ls u (r .number) → lead u (unboundHere u r ∷ []) ++ byPlaceOnce (r .number) 1 (unboundHere u r ∷ []) ≡ unboundHere u r ∷ []
@@ -292,7 +293,7 @@ mutual
 
 -- ---- targets
 refused-order : (n m : ℕ) (y : Line) → byPlaceOnce n (suc m) (refusedAt n y ∷ []) ≡ refusedAt n y ∷ []
-refused-order n m y = by-alone n m (refusedAt n y) (eqb-same n) (λ l i. eqb-other l n (λ e. omega arith)) refl
+refused-order n m y = by-alone n m (refusedAt n y) (eqb-same n) (λ l i. ne-eqb l n (λ e. omega arith)) refl
 
 mutual
   elseT : (t : Expr) (n : ℕ) (v : Env) (s : State) (l : ℕ) → Out l n (lenE t) → placed l (rawT t n [] v s) ≡ []
@@ -388,7 +389,7 @@ selfP false n m y c a F p =
     record {
       within = λ l o. placed-none l (f ∷ []) a (one-else f l (λ e. o (omega arith) (omega arith))) (p .within l (λ i j. o (omega arith) (omega arith)));
       order = ap₂ _++_ (ap (once []) (placed-left n (f ∷ []) a (p .within n (λ i j. omega arith)) ∙ one))
-          (by-same (suc n) m (f ∷ a) a (λ l i j. rw (eqb-other l n (λ e. omega arith))) ∙ p .order);
+          (by-same (suc n) m (f ∷ a) a (λ l i j. rw (ne-eqb l n (λ e. omega arith))) ∙ p .order);
     }
 
 mutual

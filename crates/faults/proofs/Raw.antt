@@ -14,7 +14,8 @@ use Rattle.faults.specs.Builtins.{builtinNames}
 use Rattle.faults.specs.Position.{Placed, Home, inModule, inDef, inMethod, Where, numbers, path, blocks, atModule, underLambda, underBlock, Use, value, callee, Visited, underClass, linesE, linesEs, linesT, linesTs, linesAs, linesS, linesSs, linesMs, visited}
 use Rattle.faults.specs.Faults.{How, given, byDef, byClass, byParam, byFor, byTarget, Binding, bind, params, boundIn, givenTo, bindings, earlier, among, bound, inView, lambdaParam, own, counts, assigned, Fault, judgeRead, refusedAt, faultOf, judge}
 use Rattle.faults.specs.Rust.{collect-locals, collect-locals-of, collect-locals-from-target, collect-locals-from-targets}
-use Rattle.faults.proofs.Any.{eqb-same, eqb-other, leb-yes, leb-no, mem-append, any-append, any-same, any-or, any-none, Each, each-append, each-map, any-each, any-quiet}
+use borrow.Author.Tests.{ne-eqb, le-leb, lt-leb}
+use Rattle.faults.proofs.Lists.{eqb-same, mem-append, any-append, any-same, any-or, any-none, Each, each-append, each-map, any-each, any-quiet}
 use Rattle.faults.proofs.Bound.{bindsE, bindsEs, bindsT, bindsTs, inClassesB, bindsS, bindsSs, bindsMs, boundSs, In, Range, wide, range-class, range-block, range-params, rangeE, rangeEs, rangeT, rangeTs, rangeS, rangeSs, rangeMs}
 use Rattle.faults.proofs.Walk.{State, assigning, naming, entered, afterT, afterTs, afterS, afterSs, Env, withParams, defEnv, methodEnv, moduleEnv, inClasses, selfFault, startState}
 
@@ -88,7 +89,7 @@ judge-class B inMethod a b F p q = refl
 -- ---- tests over blocks
 not-among : (k : ℕ) (js : List ℕ) → Each (λ j. j ≢ k) js → among k js ≡ false
 not-among k [] p = refl
-not-among k (j ∷ js) p = ap₂ _||_ (eqb-other j k (p .0)) (not-among k js (p .1))
+not-among k (j ∷ js) p = ap₂ _||_ (ne-eqb j k (p .0)) (not-among k js (p .1))
 
 among-append : (k : ℕ) (a b : List ℕ) → among k (a ++ b) ≡ (among k a || among k b)
 among-append k [] b = refl
@@ -127,7 +128,7 @@ bound-cons B x k ks r =
 
 -- ---- bindings that bind nothing in a block, or nothing yet
 quiet : (k n m h j : ℕ) (D : List Binding) → j ≢ k → (n ≤ j → j < m → ⊥) → Range k n m h D → (g : Binding → Bool) → any (λ b. eqb j (b .block) && g b) D ≡ false
-quiet k n m h j D d o r g = any-quiet _ D (each-map (In k n m h) _ (λ b i. rw (eqb-other j (b .block) (i .block j d o))) D r)
+quiet k n m h j D d o r g = any-quiet _ D (each-map (In k n m h) _ (λ b i. rw (ne-eqb j (b .block) (i .block j d o))) D r)
 
 -- at line r nothing of it stands earlier in a block before line n
 abbrev Still : ℕ → ℕ → Binding → Type 0
@@ -138,7 +139,7 @@ still-blocks n m h r D g i l = each-map (In n n m h) (Still i r) (λ b a j p q. 
 
 still-later : (k n m h r i : ℕ) (D : List Binding) → r ≤ n → Range k n m h D → Each (Still i r) D
 still-later k n m h r i D l g =
-    each-map (In k n m h) (Still i r) (λ b a j p q. let lo : n < b .from = a .low in let f : false ≡ true = sym (leb-no (b .from) r (omega arith)) ∙ q in λ e. absurd (mathlib.Core.Bool.false≢true f)) D g
+    each-map (In k n m h) (Still i r) (λ b a j p q. let lo : n < b .from = a .low in let f : false ≡ true = sym (lt-leb (b .from) r (omega arith)) ∙ q in λ e. absurd (mathlib.Core.Bool.false≢true f)) D g
 
 -- a test p that asks for a block before line n
 still-none : (n r : ℕ) (p : Binding → Bool) (D : List Binding) → ((b : Binding) → ((j : ℕ) → j < n → j ≢ b .block) → p b ≡ false) → Each (Still n r) D
@@ -153,7 +154,7 @@ in-path : (n : ℕ) (ks : List ℕ) (x : Bytes) → Each (λ j. j < n) ks → (b
 in-path n ks x p b d = rw (not-among (b .block) ks (each-map (λ j. j < n) (λ j. j ≢ b .block) d ks p))
 
 in-block : (n k : ℕ) (g : Binding → Bool) → k < n → (b : Binding) → ((j : ℕ) → j < n → j ≢ b .block) → (eqb k (b .block) && g b) ≡ false
-in-block n k g l b d = rw (eqb-other k (b .block) (d k l))
+in-block n k g l b d = rw (ne-eqb k (b .block) (d k l))
 
 -- the parameters of the block n
 params-any : (n : ℕ) (x : Bytes) (g : Binding → Bool) (ps : List Part) → ((p : Part) → g (bind byParam n (suc n) p) ≡ same x (p .bytes))
@@ -239,12 +240,12 @@ module _ (B : List Binding) where
     owns : Owns n m D
 
   not-yet : (k n m h r : ℕ) (D : List Binding) → r ≤ n → Range k n m h D → (f : Binding → Bool) → any (λ b. earlier r b && f b) D ≡ false
-  not-yet k n m h r D l g f = any-quiet _ D (each-map (In k n m h) _ (λ b i. let lo : n < b .from = i .low in rw (leb-no (b .from) r (omega arith))) D g)
+  not-yet k n m h r D l g f = any-quiet _ D (each-map (In k n m h) _ (λ b i. let lo : n < b .from = i .low in rw (lt-leb (b .from) r (omega arith))) D g)
 
   -- all of it stands earlier at r, as it does at q
   all-there : (k n m h r q : ℕ) (D : List Binding) → h ≤ suc r → r ≤ q → Range k n m h D → (f : Binding → Bool) → any (λ b. earlier q b && f b) D ≡ any (λ b. earlier r b && f b) D
   all-there k n m h r q D l p g f =
-      any-each _ _ D (each-map (In k n m h) _ (λ b i. let hi : b .from < h = i .high in rw (leb-yes (b .from) q (omega arith), leb-yes (b .from) r (omega arith))) D g)
+      any-each _ _ D (each-map (In k n m h) _ (λ b i. let hi : b .from < h = i .high in rw (le-leb (b .from) q (omega arith), le-leb (b .from) r (omega arith))) D g)
 
   -- the blocks of one of two parts; k is no block of it
   owns-first : (k n i j m m′ h : ℕ) (a c : List Binding) → ((t : ℕ) → i ≤ t → t < j → t ≢ k) → n ≤ i → j ≤ m → Range k j m′ h c → Owns n m (a ++ c) → Owns i j a
@@ -321,7 +322,7 @@ module _ (B : List Binding) where
       → any (λ b. eqb n (b .block) && (earlier r b && g b)) B ≡ mem x ps
   block-params n r x g ps D o l e q =
       o (λ b. earlier r b && g b) ∙ any-append _ (map (bind byParam n (suc n)) ps) D
-      ∙ ap₂ _||_ (params-any n x (λ b. earlier r b && g b) ps (λ p. rw (leb-yes (suc n) r l) (e p))) q ∙ or-false _
+      ∙ ap₂ _||_ (params-any n x (λ b. earlier r b && g b) ps (λ p. rw (le-leb (suc n) r l) (e p))) q ∙ or-false _
 
   mutual
     mainE : (e : Expr) (n : ℕ) (u : Use) (w : Where) (v : Env) (s : State) → Owns n (n + lenE e) (bindsE e n) → ((r : ℕ) → n ≤ r → r < n + lenE e → At r w v s)
@@ -401,7 +402,7 @@ module _ (B : List Binding) where
     bound-asg x =
         o r p q (λ b. eqb (w .block) (b .block) && (same x (b .name .bytes) && counts (b .how)))
         ∙ rw (
-          leb-yes f r pf,
+          le-leb f r pf,
           eqb-same (w .block),
           still-none n r _ D (in-block n (w .block) (λ b. same x (b .name .bytes) && counts (b .how)) (a .below .0)) t,
           or-false,
@@ -416,7 +417,7 @@ module _ (B : List Binding) where
           par = λ x. a .par x ∙ no-lambdas w z x n r;
           view = λ x. ap (mem x) e ∙ ap (λ u. same x (y .bytes) || u) (a .view x) ∙ or-comm (same x (y .bytes)) (bound x (path w) n B)
               ∙ sym (o r p q (λ b. among (b .block) (path w) && same x (b .name .bytes))
-              ∙ rw (leb-yes f r pf, eqb-same (w .block), still-none n r _ D (in-path n (path w) x (a .below)) t, or-false));
+              ∙ rw (le-leb f r pf, eqb-same (w .block), still-none n r _ D (in-path n (path w) x (a .below)) t, or-false));
           asg = g;
         }
 
@@ -508,7 +509,7 @@ module _ (B : List Binding) where
       → ((f : Binding → Bool) → any (λ b. eqb n (b .block) && f b) B ≡ any (λ b. eqb n (b .block) && f b) (map (bind byParam n (suc n)) ps ++ D)) → Range n (suc n) m g D
       → ((x : Bytes) → mem x loc ≡ own h x n B) → At (suc n) w v s → At (suc n) (underBlock h n w) (record { home = h; locals = loc; params = [] }) (entered ps s)
   enter h n m g ps loc w v s D o r e a =
-      let later : (f : Binding → Bool) → any (λ b. eqb n (b .block) && (earlier (suc n) b && f b)) D ≡ false = λ f. any-quiet _ D (each-map (In n (suc n) m g) _ (λ b i. rw (leb-no (b .from) (suc n) (i .low)) (and-false (eqb n (b .block)))) D r) in
+      let later : (f : Binding → Bool) → any (λ b. eqb n (b .block) && (earlier (suc n) b && f b)) D ≡ false = λ f. any-quiet _ D (each-map (In n (suc n) m g) _ (λ b i. rw (lt-leb (b .from) (suc n) (i .low)) (and-false (eqb n (b .block)))) D r) in
       record {
         below = (omega arith, a .below);
         hom = refl;
@@ -533,7 +534,7 @@ module _ (B : List Binding) where
   -- a block's own bindings, where another block's stand before them
   block-owns : (k n m : ℕ) (h : How) (f : ℕ) (y : Part) (D : List Binding) → k < n → n < m → Owns n m (bind h k f y ∷ D)
       → (g : Binding → Bool) → any (λ b. eqb n (b .block) && g b) B ≡ any (λ b. eqb n (b .block) && g b) D
-  block-owns k n m h f y D l p o g = o n (omega arith) p g ∙ rw (eqb-other n k (λ e. omega arith))
+  block-owns k n m h f y D l p o g = o n (omega arith) p g ∙ rw (ne-eqb n k (λ e. omega arith))
 
   mutual
     mainS : (t : Stmt) (n m : ℕ) (w : Where) (v : Env) (s : State) → n + lenS t ≤ m → w .lambdas ≡ [] → Covers n m (bindsS t n (w .block) (w .home)) → At n w v s
@@ -669,7 +670,7 @@ givens ps = map (bind given 1 1) ps
 
 given-earlier : (ps : List Part) (n : ℕ) → 1 ≤ n → (f : Binding → Bool) → any (λ b. earlier n b && f b) (givens ps) ≡ any f (givens ps)
 given-earlier [] n l f = refl
-given-earlier (p ∷ ps) n l f = ap₂ _||_ (ap (λ t. t && f (bind given 1 1 p)) (leb-yes 1 n l)) (given-earlier ps n l f)
+given-earlier (p ∷ ps) n l f = ap₂ _||_ (ap (λ t. t && f (bind given 1 1 p)) (le-leb 1 n l)) (given-earlier ps n l f)
 
 given-view : (ps : List Part) (x : Bytes) → any (λ (b : Binding). among (b .block) (1 ∷ []) && same x (b .name .bytes)) (givens ps) ≡ mem x ps
 given-view [] x = refl
@@ -677,7 +678,7 @@ given-view (p ∷ ps) x = ap (λ t. same x (p .bytes) || t) (given-view ps x)
 
 given-block : (ps : List Part) (k : ℕ) (f : Binding → Bool) → 1 < k → any (λ (b : Binding). eqb k (b .block) && f b) (givens ps) ≡ false
 given-block [] k f l = refl
-given-block (p ∷ ps) k f l = ap₂ _||_ (ap (λ t. t && f (bind given 1 1 p)) (eqb-other k 1 (λ e. omega arith))) (given-block ps k f l)
+given-block (p ∷ ps) k f l = ap₂ _||_ (ap (λ t. t && f (bind given 1 1 p)) (ne-eqb k 1 (λ e. omega arith))) (given-block ps k f l)
 
 given-counts : (ps : List Part) (x : Bytes) (k : ℕ) → any (λ (b : Binding). eqb k (b .block) && (same x (b .name .bytes) && counts (b .how))) (givens ps) ≡ false
 given-counts [] x k = refl

@@ -4,7 +4,7 @@ use mathlib.Core.Bool.{Bool, true, false, cond, not, _&&_, _||_}
 use mathlib.Core.List.{List, [], _∷_, _++_, map}
 use lib.Dec.{eqb, leb, ltb}
 use lib.ListN.{length}
-use Rattle.text.specs.Bytes.{Bytes, bytes, same, Part, noPart, any}
+use Rattle.text.specs.Bytes.{Bytes, bytes, same, Part, noPart, any, all}
 use Rattle.text.specs.Tree.{Line, Tree, lenSs, firstLine}
 use Rattle.faults.specs.Builtins.{builtinNames}
 use Rattle.faults.specs.Position.{Placed, Home, inModule, inDef, inMethod, Where, numbers, blocks, Use, value, callee, Role, isRead, isTarget, isRefused, isDef, isClass, isLambda, isOther, isFor, isMethod, Visited, visited}
@@ -105,6 +105,10 @@ pub record Fault : Type 0 where
   pub end : ℕ
   pub name : Part
   pub inClass : Part
+
+-- the fault of this kind, place and read
+abbrev pub is : ℕ → ℕ → ℕ → Fault → Bool
+is k p r f = eqb k (f .kind) && (eqb p (f .place) && eqb r (f .line))
 
 -- the fault of a read at a place; "offset and length of the name in the text (for 8 to 13, as it stands in that read)"
 abbrev pub faultAt : ℕ → Placed → Placed → Fault
@@ -214,7 +218,15 @@ faults t =
 -- A fault by itself: some visited line has it, with this kind, place and read, and it repeats none.
 abbrev pub isFault : Tree → ℕ → ℕ → ℕ → Bool
 isFault t k p r =
-    any (λ (v : Visited). any (λ (f : Fault). eqb k (f .kind) && (eqb p (f .place) && (eqb r (f .line) && not (repeated (bindings t) (visited t) f)))) (faultOf (bindings t) v)) (visited t)
+    any (λ (v : Visited). any (λ (f : Fault). is k p r f && not (repeated (bindings t) (visited t) f)) (faultOf (bindings t) v)) (visited t)
+
+-- the strict order: by place, then by read; a list in which each stands before all that follow
+abbrev pub before : Fault → Fault → Bool
+before f g = ltb (f .place) (g .place) || (eqb (f .place) (g .place) && ltb (f .line) (g .line))
+
+abbrev pub ordered : List Fault → Bool
+ordered [] = true
+ordered (f ∷ fs) = all (before f) fs && ordered fs
 
 -- "A record is seven 32-bit numbers: kind, start, end, offset and length of the name in the text [..], offset and length of the class name."
 abbrev pub recordLength : ℕ

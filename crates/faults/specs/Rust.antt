@@ -9,7 +9,7 @@ use mathlib.Core.Option.{Option, none, some}
 use Rattle.text.specs.Bytes.{Bytes, Part, mem}
 use Rattle.text.specs.Tree.{Line, Expr, Exprs, Stmt, Stmts, Methods, Tree, var, node, access, tuple, call, lambda, enil, econs, simple, assign, block, choice, for, def, class, snil, scons, mnil, mcons}
 use Rattle.faults.specs.Builtins.{builtinNames}
-use Rattle.faults.specs.Faults.{keep, lacksSelf, message}
+use Rattle.faults.specs.Faults.{Fault, keep, lacksSelf, message, messageOf}
 
 -- ---- src/semantic/scope.rs
 abbrev pub ScopeStack : Type 0
@@ -281,9 +281,17 @@ abbrev mutual
   analyze-stmts-module (scons t ts) st = followed (analyze-stmt-module t st) (λ st. analyze-stmts-module ts st)
 
 -- ---- analyze_with_globals: the first error, or none
-abbrev answer : Result ScopeStack → Checked
+abbrev pub answer : Result ScopeStack → Checked
 answer (ok st) = none
 answer (err e) = some e
 
 abbrev pub analyze-with-globals : Tree → Checked
 analyze-with-globals t = answer (analyze-stmts-module (t .body) (define-all (t .globals) (define-all builtinNames new)))
+
+-- ---- the first of a list of faults, as the Rust's answer
+abbrev pub errorOf : Fault → SemanticError
+errorOf f = record { kind = f .kind; message = messageOf f; start = f .start; end = f .end }
+
+abbrev pub firstError : List Fault → Checked
+firstError [] = none
+firstError (f ∷ fs) = some (errorOf f)
