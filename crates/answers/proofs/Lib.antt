@@ -1,0 +1,3 @@
+-- Examples of the answers, by computation.
+pub mod Examples
+pub mod Limits
