@@ -1,3 +1,4 @@
--- Examples of the answers, by computation.
+-- The answers agree with each other; examples, by computation.
+pub mod Theorems
 pub mod Examples
 pub mod Limits

@@ -17,11 +17,11 @@ pub data CheckAnswer : Type 0 where
   faulty : List ℕ → CheckAnswer
   refused : ℕ → ℕ → CheckAnswer
 
-abbrev firstRecord : List Fault → CheckAnswer
+abbrev pub firstRecord : List Fault → CheckAnswer
 firstRecord [] = accepted
 firstRecord (f ∷ fs) = faulty (record7 f)
 
-abbrev checkOf : Reading → CheckAnswer
+abbrev pub checkOf : Reading → CheckAnswer
 checkOf (tree t) = firstRecord (faults t)
 checkOf (refusal k n) = refused k n
 
@@ -38,7 +38,7 @@ pub data ReportAnswer : Type 0 where
 abbrev pub reported : ℕ → List Fault → ReportAnswer
 reported out fs = elim (ltb out (recordLength * length fs)) [ true ↦ ReportAnswer.refused 16 (length fs) | false ↦ written (records fs) (length fs) ]
 
-abbrev reportOf : ℕ → Reading → ReportAnswer
+abbrev pub reportOf : ℕ → Reading → ReportAnswer
 reportOf out (tree t) = reported out (faults t)
 reportOf out (refusal k n) = ReportAnswer.refused k n
 
@@ -60,11 +60,11 @@ faultAt (f ∷ fs) (suc i) = faultAt fs i
 abbrev wroteIf : ℕ → Bytes → MessageAnswer
 wroteIf out m = elim (ltb out (length m)) [ true ↦ tooLong | false ↦ wrote m ]
 
-abbrev messageOr : ℕ → Option Fault → MessageAnswer
+abbrev pub messageOr : ℕ → Option Fault → MessageAnswer
 messageOr out none = noFault
 messageOr out (some f) = wroteIf out (messageOf f)
 
-abbrev messageIn : ℕ → ℕ → Reading → MessageAnswer
+abbrev pub messageIn : ℕ → ℕ → Reading → MessageAnswer
 messageIn i out (tree t) = messageOr out (faultAt (faults t) i)
 messageIn i out (refusal k n) = MessageAnswer.refused k n
 

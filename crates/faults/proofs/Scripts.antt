@@ -7,6 +7,8 @@ use mathlib.Core.Option.{Option, none, some}
 use Rattle.text.specs.Bytes.{Bytes, bytes}
 use Rattle.text.specs.Tree.{Tree}
 use Rattle.text.specs.Reading.{Reading, tree, refusal, readTree}
+use lib.ListN.{length}
+use Rattle.faults.specs.Builtins.{Builtin, builtins}
 use Rattle.faults.specs.Faults.{fullReport}
 use Rattle.faults.specs.Rust.{SemanticError, Checked, analyze-with-globals}
 
@@ -103,3 +105,10 @@ further =
 
 pub further-hold : map (λ (r : Script). outcome (r .text)) further ≡ map (λ (r : Script). r .is) further
 further-hold = refl
+
+-- ---- the table of built-in names: thirteen, each with its length
+pub builtin-lengths : map (λ (b : Builtin). b .len) builtins ≡ map (λ (b : Builtin). length (b .name)) builtins
+builtin-lengths = refl
+
+pub thirteen : length builtins ≡ 13
+thirteen = refl

@@ -1,5 +1,6 @@
 -- Faults by position: bindings and where they stand, the rules for reads, the full report. No stack of scopes, and no walk.
 use Prim.Native.Nat.{ℕ, zero, suc, _+_}
+use Prim.Native.String.{String}
 use mathlib.Core.Bool.{Bool, true, false, cond, not, _&&_, _||_}
 use mathlib.Core.List.{List, [], _∷_, _++_, map}
 use lib.Dec.{eqb, leb, ltb}
@@ -75,7 +76,8 @@ inView x n w bs = bound x (blocks w) n bs
 abbrev pub lambdaParam : Bytes → ℕ → Where → List Binding → Bool
 lambdaParam x n w bs = bound x (numbers (w .lambdas)) n bs
 
--- "The *own names* of a def are all names bound in its block, early or late"
+-- "The *own names* of a def are all names bound in its block, early or late; of a method, its parameters": these are in view in all of
+-- its body, and the rules ask for the own names of a def alone.
 abbrev pub own : Home → Bytes → ℕ → List Binding → Bool
 own inModule x k bs = false
 own inDef x k bs = any (λ (b : Binding). eqb k (b .block) && same x (b .name .bytes)) bs
@@ -244,37 +246,38 @@ records (f ∷ fs) = record7 f ++ records fs
 abbrev pub fullReport : Tree → List ℕ
 fullReport t = records (faults t)
 
--- ---- messages, in the Rust's words
+-- ---- messages, in the Rust's words: N stands after `before`, and for 15 the method's name there and the class's after `between`
+pub record Words : Type 0 where
+  pub kind : ℕ
+  pub before : Bytes
+  pub between : Bytes
+  pub after : Bytes
+
+abbrev words : ℕ → String → String → String → Words
+words k b m a = record { kind = k; before = bytes b; between = bytes m; after = bytes a }
+
+abbrev pub eightTexts : List Words
+eightTexts =
+    words 8 "Undefined variable: " "" ""
+    ∷ words 9 "Undefined function: " "" ""
+    ∷ words 10 "Undefined variable '" "' captured by lambda" ""
+    ∷ words 11 "Unbound local variable: " "" ""
+    ∷ words 12 "Unbound local function: " "" ""
+    ∷ words 13 "Unbound local variable '" "' captured by lambda" ""
+    ∷ words 14 "Invalid assignment target: cannot assign to literal, call, or expression" "" ""
+    ∷ words 15 "Method '" "' in class '" "' must have 'self' as first parameter"
+    ∷ []
+
+abbrev written : Words → Bytes → Bytes → Bytes
+written w x c = w .before ++ (x ++ (w .between ++ (c ++ w .after)))
+
+abbrev messageFrom : List Words → ℕ → Bytes → Bytes → Bytes
+messageFrom [] k x c = []
+messageFrom (w ∷ ws) k x c = elim (eqb k (w .kind)) [ true ↦ written w x c | false ↦ messageFrom ws k x c ]
+
+-- the message of a kind, a name and a class name
 abbrev pub message : ℕ → Bytes → Bytes → Bytes
-message k x c = elim (eqb k 8) [
-  | true ↦ bytes "Undefined variable: " ++ x
-  | false ↦
-      elim (eqb k 9) [
-        | true ↦ bytes "Undefined function: " ++ x
-        | false ↦
-            elim (eqb k 10) [
-              | true ↦ bytes "Undefined variable '" ++ (x ++ bytes "' captured by lambda")
-              | false ↦
-                  elim (eqb k 11) [
-                    | true ↦ bytes "Unbound local variable: " ++ x
-                    | false ↦
-                        elim (eqb k 12) [
-                          | true ↦ bytes "Unbound local function: " ++ x
-                          | false ↦
-                              elim (eqb k 13) [
-                                | true ↦ bytes "Unbound local variable '" ++ (x ++ bytes "' captured by lambda")
-                                | false ↦
-                                    elim (eqb k 14) [
-                                      | true ↦ bytes "Invalid assignment target: cannot assign to literal, call, or expression"
-                                      | false ↦
-                                          bytes "Method '" ++ (x ++ (bytes "' in class '" ++ (c ++ bytes "' must have 'self' as first parameter")))
-                                    ]
-                              ]
-                        ]
-                  ]
-            ]
-      ]
-]
+message k x c = messageFrom eightTexts k x c
 
 abbrev pub messageOf : Fault → Bytes
 messageOf f = message (f .kind) (f .name .bytes) (f .inClass .bytes)
