@@ -8,14 +8,11 @@ use lib.Dec.{eqb}
 use lib.ListN.{length}
 use borrow.Author.Tests.{eqb-true, eqb-false, eq-eqb, ne-eqb}
 use Rattle.text.specs.Bytes.{Bytes, Part, same, mem, any, all}
+pub use Rattle.text.proofs.Lists.{and-split, All, all-nil as none, all-cons as also}
 use Rattle.faults.specs.Position.{Visited}
 use Rattle.faults.specs.Faults.{Binding, Fault, faultOf, judge, keep}
 
 -- ---- tests
-pub and-split : (a b : Bool) → (a && b) ≡ true → (a ≡ true) × (b ≡ true)
-and-split true b e = (refl, e)
-and-split false b e = absurd (false≢true e)
-
 pub eqb-same : (k : ℕ) → eqb k k ≡ true
 eqb-same k = eq-eqb k k refl
 
@@ -72,10 +69,6 @@ any-judge p bs [] = refl
 any-judge p bs (v ∷ vs) = ap (λ b. any p (faultOf bs v) || b) (any-judge p bs vs) ∙ sym (any-append p (faultOf bs v) (judge bs vs))
 
 -- ---- all
-pub data All {A : Type 0} (P : A → Type 0) : List A → Type 0 where
-  none : All P []
-  also : {a : A} {l : List A} → P a → All P l → All P (a ∷ l)
-
 pub all-append : {A : Type 0} {P : A → Type 0} {l m : List A} → All P l → All P m → All P (l ++ m)
 all-append none b = b
 all-append (also h a) b = also h (all-append a b)

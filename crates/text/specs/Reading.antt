@@ -46,20 +46,20 @@ pub record Due (A : Type 0) : Type 0 where
   pub is : A
   pub parsed : Parsed
 
-abbrev withinLimits : ℕ → Parsed → Bool
+abbrev pub withinLimits : ℕ → Parsed → Bool
 withinLimits n p = leb n (suc mostLines) && leb (length (p .line .params)) mostParams
 
 -- 7, "over 4,096 lines, depth 64 or 16 names"
-abbrev limited : {A : Type 0} → ℕ → Cut → Parsed → A → Read (Due A)
+abbrev pub limited : {A : Type 0} → ℕ → Cut → Parsed → A → Read (Due A)
 limited n c p a =
     cond (withinLimits n p) (got (record { is = a; parsed = p }) (record { bytes = c .rest; offset = c .next; number = suc n })) (refused 7 n)
 
 -- 6, "well-formed, not due here"
-abbrev dueHere : {A : Type 0} → (Form → Option A) → ℕ → Cut → Parsed → Read (Due A)
+abbrev pub dueHere : {A : Type 0} → (Form → Option A) → ℕ → Cut → Parsed → Read (Due A)
 dueHere due n c p = elim (due (p .form)) [ some a ↦ limited n c p a | none ↦ refused 6 n ]
 
 -- 5, "unknown word, wrong fields, bad name or number, no LF"
-abbrev formed : {A : Type 0} → (Form → Option A) → ℕ → Cut → Read (Due A)
+abbrev pub formed : {A : Type 0} → (Form → Option A) → ℕ → Cut → Read (Due A)
 formed due n c =
     elim (c .ended) [ true ↦ elim (parse (c .fields)) [ some p ↦ dueHere due n c p | none ↦ refused 5 n ] | false ↦ refused 5 n ]
 
@@ -68,7 +68,7 @@ abbrev pub line : {A : Type 0} → (Form → Option A) → Rest → Read (Due A)
 line due r = elim (r .bytes) [ [] ↦ refused 3 (r .number) | b ∷ bs ↦ formed due (r .number) (cut (r .offset) (r .bytes)) ]
 
 -- a line at depth 65: refused as 7 where it is not refused before
-abbrev tooDeep : {A B : Type 0} → ℕ → Read A → Read B
+abbrev pub tooDeep : {A B : Type 0} → ℕ → Read A → Read B
 tooDeep n (got a r) = refused 7 n
 tooDeep n (refused k m) = refused k m
 
@@ -92,7 +92,7 @@ methods one body (suc n) r =
     andThen (one r) (λ d r. andThen (body (countAt 0 (d .parsed)) r) (λ b r. andThen (methods one body n r) (λ ms r. got (mcons (d .parsed .line) b ms) r)))
 
 -- ---- expressions; `read` reads a child
-abbrev exprChildren : (Rest → Read Expr) → ExprForm → Parsed → Rest → Read Expr
+abbrev pub exprChildren : (Rest → Read Expr) → ExprForm → Parsed → Rest → Read Expr
 exprChildren read ExprForm.var p r = got (var (p .line)) r
 exprChildren read (ExprForm.fixed k) p r = andThen (exprs read k r) (λ es r. got (node (p .line) es) r)
 exprChildren read (ExprForm.counted k) p r = andThen (exprs read (k * countAt 0 p) r) (λ es r. got (node (p .line) es) r)
@@ -108,7 +108,7 @@ expr zero r = tooDeep (r .number) (line asExpr r)
 expr (suc d) r = andThen (line asExpr r) (λ l r. exprChildren (expr d) (l .is) (l .parsed) r)
 
 -- ---- statements; `value` reads an expression below, `read` a statement, `other` an elif
-abbrev stmtChildren : (Rest → Read Expr) → (Rest → Read Stmt) → (Rest → Read Stmt) → (ℕ → Rest → Read Methods) → (ℕ → Rest → Read Attrs)
+abbrev pub stmtChildren : (Rest → Read Expr) → (Rest → Read Stmt) → (Rest → Read Stmt) → (ℕ → Rest → Read Methods) → (ℕ → Rest → Read Attrs)
     → StmtForm → Parsed → Rest → Read Stmt
 stmtChildren value read other ms ats (StmtForm.plain k) p r = andThen (exprs value k r) (λ es r. got (simple (p .line) es) r)
 stmtChildren value read other ms ats StmtForm.assign p r = andThen (value r) (λ e r. andThen (value r) (λ t r. got (assign (p .line) e t) r))
@@ -123,7 +123,7 @@ stmtChildren value read other ms ats StmtForm.def p r = andThen (stmts read (cou
 stmtChildren value read other ms ats StmtForm.class p r =
     andThen (ms (countAt 0 p) r) (λ m r. andThen (ats (countAt 1 p) r) (λ a r. got (class (p .line) m a) r))
 
-abbrev elifLine : (Rest → Read Expr) → (Rest → Read Stmt) → Parsed → Rest → Read Stmt
+abbrev pub elifLine : (Rest → Read Expr) → (Rest → Read Stmt) → Parsed → Rest → Read Stmt
 elifLine value read p r = andThen (value r) (λ c r. andThen (stmts read (countAt 0 p) r) (λ b r. got (block (p .line) c b) r))
 
 -- `elif`, `method` and `attr` are one deeper than their `if` or `class`, and their children one deeper again
@@ -133,15 +133,15 @@ abbrev mutual
   stmt (suc d) r =
       andThen (line asStmt r) (λ l r. stmtChildren (expr d) (λ r. stmt d r) (λ r. elif d r) (λ n r. methodsAt d n r) (λ n r. attrsAt d n r) (l .is) (l .parsed) r)
 
-  elif : ℕ → Rest → Read Stmt
+  pub elif : ℕ → Rest → Read Stmt
   elif zero r = tooDeep (r .number) (line (asSort Form.elif) r)
   elif (suc d) r = andThen (line (asSort Form.elif) r) (λ l r. elifLine (expr d) (λ r. stmt d r) (l .parsed) r)
 
-  methodsAt : ℕ → ℕ → Rest → Read Methods
+  pub methodsAt : ℕ → ℕ → Rest → Read Methods
   methodsAt zero n r = methods (λ r. tooDeep (r .number) (line (asSort Form.method) r)) (λ n r. got snil r) n r
   methodsAt (suc d) n r = methods (line (asSort Form.method)) (stmts (λ r. stmt d r)) n r
 
-  attrsAt : ℕ → ℕ → Rest → Read Attrs
+  pub attrsAt : ℕ → ℕ → Rest → Read Attrs
   attrsAt zero n r = attrs (λ r. tooDeep (r .number) (line (asSort Form.attr) r)) (expr zero) n r
   attrsAt (suc d) n r = attrs (line (asSort Form.attr)) (expr d) n r
 
@@ -156,7 +156,7 @@ pub data Reading : Type 0 where
   refusal : ℕ → ℕ → Reading
 
 -- 4, "a line after the last due"
-abbrev ended : Read Tree → Reading
+abbrev pub ended : Read Tree → Reading
 ended (got t r) = elim (r .bytes) [ [] ↦ tree t | b ∷ bs ↦ refusal 4 (r .number) ]
 ended (refused k n) = refusal k n
 
