@@ -1,12 +1,16 @@
 #!/usr/bin/env python3
-"""Compare the definitions (crates/text/specs, crates/faults/specs) with the independent
-reading of document 01 in document01.py.
+"""Compare the definitions (specs/ of the crates text, faults and answers) with the
+independent reading of document 01 in document01.py.
 
-Writes tables `outcome text ≡ expected`, with the expectations of that reading, into a
-copy of the two crates, and has each proved by refl with `rt dev faults` there.
+Of each text: the reading or its refusal, the full report, places and reads, messages, the
+Rust walk's answer, the walk that lists everything; the answers of check, report, message
+and name, also where the output is too short; and what `namecheck` prints.  Tables
+`outcome text ≡ expected`, with the expectations of that reading, are written into a copy
+of the crates, and each is proved by refl with `rt dev answers` there.
 
     definitions.py edges                  the small refusals, and the edge cases
     definitions.py random COUNT SEED      random trees, and damaged copies of them
+    definitions.py files FILE..           tree texts
 """
 
 import os
@@ -23,7 +27,7 @@ from document01 import lines_of, names, nested
 
 ROOT = os.path.dirname(os.path.dirname(os.path.abspath(__file__)))
 COPY = tempfile.mkdtemp(prefix='definitions')
-FILE = os.path.join(COPY, 'crates/faults/proofs/Compare.antt')
+FILE = os.path.join(COPY, 'crates/answers/proofs/Compare.antt')
 
 HEAD = '''-- Scratch: the definitions against the independent reading in Python.
 use Prim.Native.Nat.{ℕ}
@@ -31,12 +35,14 @@ use Prim.Native.String.{String}
 use mathlib.Core.Path.{_≡_, refl}
 use mathlib.Core.List.{List, [], _∷_, _++_, map}
 use mathlib.Core.Option.{Option, none, some}
-use Rattle.text.specs.Bytes.{Bytes, bytes}
+use Rattle.text.specs.Bytes.{Bytes, Part, bytes}
 use Rattle.text.specs.Tree.{Tree}
-use Rattle.text.specs.Reading.{Reading, tree, refusal, readTree, reading}
+use Rattle.text.specs.Reading.{Reading, tree, refusal, reading}
 use Rattle.faults.specs.Faults.{Fault, faults, fullReport, records, messageOf}
 use Rattle.faults.specs.Rust.{SemanticError, Checked, analyze-with-globals}
 use Rattle.faults.proofs.Walk.{walk}
+use Rattle.answers.specs.Answers.{CheckAnswer, accepted, faulty, ReportAnswer, written, MessageAnswer, wrote, noFault, tooLong, check, report, message, name}
+use Rattle.answers.specs.Printed.{printed}
 
 pub data Outcome : Type 0 where
   judged : List ℕ → List ℕ → List Bytes → Checked → List ℕ → List ℕ → Outcome
@@ -50,8 +56,17 @@ abbrev outcomeOf : Reading → Outcome
 outcomeOf (tree t) = judged (fullReport t) (places (faults t)) (map (λ (f : Fault). messageOf f) (faults t)) (analyze-with-globals t) (records (walk t)) (places (walk t))
 outcomeOf (refusal k n) = refused k n
 
-abbrev pub outcome : Bytes → Outcome
-outcome s = outcomeOf (reading s 16384)
+-- the calls: check; report to an output of o numbers; message i to m bytes; name i; what is printed
+pub record Calls : Type 0 where
+  pub outcome : Outcome
+  pub checks : CheckAnswer
+  pub reports : ReportAnswer
+  pub says : MessageAnswer
+  pub names : Part
+  pub prints : Bytes
+
+abbrev calls : Bytes → ℕ → ℕ → ℕ → Calls
+calls s o i m = record { outcome = outcomeOf (reading s 16384); checks = check s 16384; reports = report s 16384 o; says = message s 16384 i m; names = name s 16384 i; prints = printed s }
 
 abbrev rust : ℕ → ℕ → ℕ → String → Checked
 rust k s e m = some (record { kind = k; message = bytes m; start = s; end = e })
@@ -59,17 +74,26 @@ rust k s e m = some (record { kind = k; message = bytes m; start = s; end = e })
 abbrev expect : List ℕ → List ℕ → List Bytes → Checked → Outcome
 expect r p m c = judged r p m c r p
 
+abbrev part : ℕ → Bytes → Part
+part o b = record { offset = o; bytes = b }
+
+abbrev answered : Outcome → CheckAnswer → ReportAnswer → MessageAnswer → Part → Bytes → Calls
+answered o c r m n p = record { outcome = o; checks = c; reports = r; says = m; names = n; prints = p }
+
 pub record Row : Type 0 where
   pub text : Bytes
-  pub is : Outcome
+  pub out : ℕ
+  pub i : ℕ
+  pub room : ℕ
+  pub is : Calls
 
-abbrev row : Bytes → Outcome → Row
-row s o = record { text = s; is = o }
+abbrev row : Bytes → ℕ → ℕ → ℕ → Calls → Row
+row s o i m c = record { text = s; out = o; i = i; room = m; is = c }
 
-abbrev get : List Row → List Outcome
-get rs = map (λ (r : Row). outcome (r .text)) rs
+abbrev get : List Row → List Calls
+get rs = map (λ (r : Row). calls (r .text) (r .out) (r .i) (r .room)) rs
 
-abbrev want : List Row → List Outcome
+abbrev want : List Row → List Calls
 want rs = map (λ (r : Row). r .is) rs
 
 '''
@@ -118,25 +142,62 @@ def expected(text):
     return '(expect %s %s %s %s)' % (numbers(report), numbers(places), messages, answer)
 
 
+def sizes(text):
+    """An output length, an i and a room for a message, from the text alone: often just
+    enough, one short, or past the last fault."""
+    rng = random.Random(text)
+    found = document01.judged(text, 16384)
+    count = 0 if isinstance(found, tuple) else len(found)
+    i = rng.randrange(count + 1)
+    long = len(found[i].message) if i < count else 5
+    return max(0, 7 * count + rng.choice((-7, -1, 0, 1))), i, max(0, long + rng.choice((-1, 0, 1)))
+
+
+def answers(text, out, i, room):
+    """The answers of the calls, as terms."""
+    def refused(kind, answer):
+        return '(%s.refused %d %d)' % (kind, answer[1], answer[2])
+    checked = document01.check(text, 16384)
+    check = ('accepted' if checked is None else refused('CheckAnswer', checked)
+             if isinstance(checked, tuple) else '(faulty %s)' % numbers(checked))
+    reported = document01.report(text, 16384, out)
+    report = (refused('ReportAnswer', reported) if isinstance(reported, tuple)
+              else '(written %s %d)' % (numbers(reported), len(reported) // 7))
+    said = document01.message(text, 16384, i, room)
+    if not isinstance(said, tuple):
+        message = '(wrote (bytes %s))' % string(said)
+    elif said[1:] == (17,):
+        message = 'noFault'
+    elif said[1:] == (18,):
+        message = 'tooLong'
+    else:
+        message = refused('MessageAnswer', said)
+    offset, length = document01.name(text, 16384, i)
+    name = '(part %d (bytes %s))' % (offset, string(text[offset:offset + length]))
+    return '%s %s %s %s (bytes %s)' % (check, report, message, name, string(document01.printed(text)))
+
+
 def run(batches, wrong=()):
     """Prove each batch (a list of texts) as one declaration; the output of rt."""
     parts = [HEAD]
     for index, batch in enumerate(batches):
         parts.append('abbrev rows%d : List Row\nrows%d =\n' % (index, index))
         for text in batch:
-            parts.append('    row %s %s\n    ∷\n' % (
-                quoted(text), '(refused 99 99)' if text in wrong else expected(text)))
+            size = sizes(text)
+            outcome = '(refused 99 99)' if text in wrong else expected(text)
+            parts.append('    row %s %d %d %d (answered %s %s)\n    ∷\n' % (
+                (quoted(text),) + size + (outcome, answers(text, *size))))
         parts[-1] = parts[-1][:-1] + ' []\n\n'
         parts.append('pub holds%d : get rows%d ≡ want rows%d\nholds%d = refl\n\n'
                      % ((index,) * 4))
     with open(FILE, 'w') as file:
         file.write(''.join(parts))
     start = time.time()
-    done = subprocess.run(['rt', 'dev', 'faults'], cwd=COPY, capture_output=True,
+    done = subprocess.run(['rt', 'dev', 'answers'], cwd=COPY, capture_output=True,
                           text=True)
     output = done.stdout + done.stderr
     proved = any(line.startswith('logic=proved') for line in output.splitlines()[-1:])
-    if proved and not re.search(r'crate faults: modules loaded=\d+ checked=[1-9]', output):
+    if proved and not re.search(r'crate answers: modules loaded=\d+ checked=[1-9]', output):
         raise SystemExit('nothing was checked: ' + output)
     return proved, output, time.time() - start
 
@@ -328,11 +389,13 @@ def random_texts(count, seed):
 
 
 def copy_crates():
-    for crate in ('text', 'faults'):
+    """The crates, with the comparison in place of the proofs of the topmost."""
+    for crate in ('text', 'faults', 'answers'):
         shutil.copytree(os.path.join(ROOT, 'crates', crate), os.path.join(COPY, 'crates', crate))
-    with open(os.path.join(COPY, 'crates.txt'), 'w') as file:
-        file.write('text:\nfaults: text\n')
-    with open(os.path.join(COPY, 'crates/faults/proofs/Lib.antt'), 'a') as file:
+    shutil.copy(os.path.join(ROOT, 'crates.txt'), COPY)
+    shutil.rmtree(os.path.join(COPY, 'crates/answers/proofs'))
+    os.mkdir(os.path.join(COPY, 'crates/answers/proofs'))
+    with open(os.path.join(COPY, 'crates/answers/proofs/Lib.antt'), 'w') as file:
         file.write('pub mod Compare\n')
 
 
@@ -340,6 +403,8 @@ def main(arguments):
     copy_crates()
     if arguments[0] == 'edges':
         texts = list(dict.fromkeys(edges()))
+    elif arguments[0] == 'files':
+        texts = [open(name, 'rb').read() for name in arguments[1:]]
     else:
         texts = random_texts(int(arguments[1]), int(arguments[2]))
     kinds = {}

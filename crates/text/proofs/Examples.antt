@@ -106,3 +106,16 @@ Hold es = map (λ (e : Example). shown (reading (e .text) (e .work))) es ≡ map
 
 pub refusals-hold : Hold refusals
 refusals-hold = refl
+
+-- ---- some rows by themselves, for short texts: where one fails, antt shows both sides
+abbrev read? : Bytes → Shown
+read? b = shown (reading b 16_384)
+
+pub leading-zero-5 : read? (bytes "tree\t0\t01\n") ≡ refused 5 1
+leading-zero-5 = refl
+
+pub not-due-6 : read? (bytes "tree\t0\t1\nlit\t0\t1\n") ≡ refused 6 2
+not-due-6 = refl
+
+pub seventeen-not-due-6 : read? (bytes "tree\t0\t1\nlambda\t0\t1\ta\ta\ta\ta\ta\ta\ta\ta\ta\ta\ta\ta\ta\ta\ta\ta\ta\n") ≡ refused 6 2
+seventeen-not-due-6 = refl
