@@ -1,0 +1,3 @@
+-- The rows of a tree, and how the reader comes to them.
+pub mod Rows
+pub mod Agenda
