@@ -1,0 +1,106 @@
+// Numbers the names of rows: the number of a name is the earliest row that has it. New names with one hash are a chain, from a head
+// through links that fall, in the work buffer.
+ghost use mathlib.Core.Path.{_≡_};
+ghost use Prim.Native.Nat.{ℕ, _<_, _≤_};
+ghost use lib.ListN.{length};
+ghost use Rattle.names.specs.Chains.{partOf, headAt, linkAt, found, lookup, placed, entered, added, cleared};
+
+// The part of the text from an offset on; none where it is not inside.
+fn part(text: &[u8], at: usize, len: usize) -> &[u8]
+    ensures { λ r. ⌜ now r ≡ partOf (now (text .entry)) at len ⌝ }
+{
+    if at <= text.len() {
+        if len <= text.len() - at {
+            let end = at + len;
+            return &text[at..end];
+        }
+    }
+    &text[0..0]
+}
+
+// The head of a hash's chain.
+fn head(work: &[u32], hash: usize) -> usize
+    ensures { λ r. ⌜ (r ≡ headAt (now (work .entry)) hash) × (r < 4294967296) ⌝ }
+{
+    rows::get(work, 8192 + hash % 4096)
+}
+
+// The row (and one) after row j in its chain, or 0.
+fn link(work: &[u32], j: usize) -> usize
+    requires { ⌜ j < 4294967296 ⌝ }
+    ensures { λ r. ⌜ (r ≡ linkAt (now (work .entry)) j) × (r ≤ j) ⌝ }
+{
+    let s = rows::same(work, j);
+    if s < 4096 {
+        return 0;
+    }
+    if s - 4096 <= j {
+        return s - 4096;
+    }
+    0
+}
+
+// The earliest row that has the name, which has the hash; 4,096 where there is none.
+fn find(text: &[u8], work: &[u32], hash: usize, name: &[u8]) -> usize
+    ensures { λ r. ⌜ r ≡ found (now (text .entry)) (now (work .entry)) hash (now (name .entry)) ⌝ }
+{
+    let mut c = head(work, hash);
+    while 0 < c {
+        let j = c - 1;
+        if cursor::is_field(text, rows::offset(work, j), name) {
+            return j;
+        }
+        c = link(work, j);
+    }
+    4096
+}
+
+// The earliest row that has the name; 4,096 where there is none.
+pub fn row_of(text: &[u8], work: &[u32], name: &[u8]) -> usize
+    ensures { λ r. ⌜ r ≡ lookup (now (text .entry)) (now (work .entry)) (now (name .entry)) ⌝ }
+{
+    find(text, work, cursor::hash(name), name)
+}
+
+// Row i has no name: its line starts at the offset.
+pub fn place(work: &mut [u32], i: usize, at: usize)
+    requires { ⌜ i < 4294967296 ⌝ }
+    ensures { λ _. ⌜ now (work .exit) ≡ placed (now (work .entry)) i at ⌝ }
+{
+    rows::put(work, 4096 + i, at)
+}
+
+// Writes row i's name, where r is the earliest row that has it, or 4,096.
+fn enter(work: &mut [u32], i: usize, at: usize, hash: usize, r: usize)
+    requires { ⌜ (i < 4294967296) × (at < 4294967296) ⌝ }
+    ensures { λ _. ⌜ now (work .exit) ≡ entered (now (work .entry)) i at hash r ⌝ }
+{
+    if r < 4096 {
+        rows::put(work, 4096 + i, at + 65536 * r);
+        return;
+    }
+    let h = head(work, hash);
+    rows::put(work, 4096 + i, at + 65536 * (4096 + h));
+    rows::put(work, 8192 + hash % 4096, i + 1)
+}
+
+// Row i has the name at the offset, with a length and a hash.
+pub fn add(text: &[u8], work: &mut [u32], i: usize, at: usize, len: usize, hash: usize)
+    requires { ⌜ (i < 4294967296) × (at < 4294967296) ⌝ }
+    ensures { λ _. ⌜ now (work .exit) ≡ added (now (text .entry)) (now (work .entry)) i at len hash ⌝ }
+{
+    let r = find(text, work, hash, part(text, at, len));
+    enter(work, i, at, hash, r)
+}
+
+// Forgets all names.
+pub fn clear(work: &mut [u32])
+    requires { ⌜ 16384 ≤ length (now work) ⌝ }
+    ensures { λ _. ⌜ now (work .exit) ≡ cleared (now (work .entry)) ⌝ }
+{
+    let mut i = 8192;
+    while i < 12288 {
+        work[i] = 0;
+        i += 1;
+    }
+}

@@ -1,0 +1,71 @@
+// The work buffer's numbers: read and written at any index, and the parts of a row.
+ghost use mathlib.Core.Path.{_≡_};
+ghost use Prim.Native.Nat.{ℕ, _%_, _<_};
+ghost use lib.ListN.{getD, set};
+ghost use Rattle.rows.specs.Layout.{kindAt, belowAt, offsetAt, sameAt, numberAt};
+
+fn wide(x: u32) -> usize
+    ensures { λ r. ⌜ (r ≡ x) × (r < 4294967296) ⌝ }
+{
+    x as usize
+}
+
+// The number at i, and 0 past the end.
+pub fn get(work: &[u32], i: usize) -> usize
+    ensures { λ r. ⌜ (r ≡ getD (now (work .entry)) i 0) × (r < 4294967296) ⌝ }
+{
+    if i < work.len() {
+        return wide(work[i]);
+    }
+    0
+}
+
+// A number at i, if there is room; 32 bits of it.
+pub fn put(work: &mut [u32], i: usize, v: usize)
+    ensures { λ _. ⌜ now (work .exit) ≡ set (now (work .entry)) i (v % 4294967296) ⌝ }
+{
+    if i < work.len() {
+        work[i] = (v % 4294967296) as u32;
+    }
+}
+
+// The kind of a row's line.
+pub fn kind(work: &[u32], i: usize) -> usize
+    ensures { λ r. ⌜ r ≡ kindAt (now (work .entry)) i ⌝ }
+{
+    get(work, i) % 32
+}
+
+// How many lines are below it.
+pub fn below(work: &[u32], i: usize) -> usize
+    ensures { λ r. ⌜ r ≡ belowAt (now (work .entry)) i ⌝ }
+{
+    get(work, i) / 32
+}
+
+// Where its name starts, or the line if it has no name.
+pub fn offset(work: &[u32], i: usize) -> usize
+    requires { ⌜ i < 4294967296 ⌝ }
+    ensures { λ r. ⌜ r ≡ offsetAt (now (work .entry)) i ⌝ }
+{
+    get(work, 4096 + i) % 65536
+}
+
+pub fn same(work: &[u32], i: usize) -> usize
+    requires { ⌜ i < 4294967296 ⌝ }
+    ensures { λ r. ⌜ r ≡ sameAt (now (work .entry)) i ⌝ }
+{
+    get(work, 4096 + i) / 65536
+}
+
+// The number of its name: the earliest row that has it.
+pub fn number(work: &[u32], i: usize) -> usize
+    requires { ⌜ i < 4294967296 ⌝ }
+    ensures { λ r. ⌜ r ≡ numberAt (now (work .entry)) i ⌝ }
+{
+    let s = same(work, i);
+    if s < 4096 {
+        return s;
+    }
+    i
+}
