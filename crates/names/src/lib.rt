@@ -3,7 +3,10 @@
 ghost use mathlib.Core.Path.{_≡_};
 ghost use Prim.Native.Nat.{ℕ, _<_, _≤_};
 ghost use lib.ListN.{length};
-ghost use Rattle.names.specs.Chains.{partOf, headAt, linkAt, found, lookup, placed, entered, added, cleared};
+ghost use mathlib.Core.List.{List, []};
+ghost use Rattle.text.specs.Bytes.{Bytes};
+ghost use Rattle.names.specs.Names.{earliest};
+ghost use Rattle.names.specs.Chains.{Names, partOf, headAt, linkAt, found, lookup, placed, entered, added, cleared};
 
 // The part of the text from an offset on; none where it is not inside.
 fn part(text: &[u8], at: usize, len: usize) -> &[u8]
@@ -55,9 +58,11 @@ fn find(text: &[u8], work: &[u32], hash: usize, name: &[u8]) -> usize
     4096
 }
 
-// The earliest row that has the name; 4,096 where there is none.
+// The earliest row that has the name; 4,096 where there is none. It finds what `lookup` finds in any buffer, and where the buffer holds
+// names, the earliest.
 pub fn row_of(text: &[u8], work: &[u32], name: &[u8]) -> usize
     ensures { λ r. ⌜ r ≡ lookup (now (text .entry)) (now (work .entry)) (now (name .entry)) ⌝ }
+    ensures { λ r. ⌜ ((names : List Bytes) → Names (now (text .entry)) names (now (work .entry)) → (now (name .entry) ≡ [] → ⊥) → r ≡ earliest names (now (name .entry))) ⌝ }
 {
     find(text, work, cursor::hash(name), name)
 }

@@ -1,6 +1,10 @@
--- What is found for the name's hash.
+-- What is found for the name's hash; where the buffer holds names, that is the earliest row.
+use Prim.Native.Nat.{ℕ}
+use mathlib.Core.Path.{_≡_, _∙_}
 use borrow.Author.Needs.{needs}
+use Rattle.names.specs.Chains.{lookup}
 use Rattle.names.proofs.Steps.{look-up}
+use Rattle.names.proofs.Theorems.{lookup-earliest}
 use Rattle.names.proofs.row_of.Statement.{statement}
 use Rattle.names.proofs.row_of.Tie as tie
 
@@ -13,7 +17,9 @@ find-requires c κs = search needs
 returns : tie.Need-returns
 returns c =
     let a = c .before .before .before .before .before .args in
-    look-up (a .text .now) (a .work .now) (a .name .now) (c .before .hash .result) (c .find .result) (c .before .hash .ensures .0) (c .find .ensures)
+    let f : c .find .result ≡ lookup (a .text .now) (a .work .now) (a .name .now) =
+    look-up (a .text .now) (a .work .now) (a .name .now) (c .before .hash .result) (c .find .result) (c .before .hash .ensures .0) (c .find .ensures) in
+    (f, λ names s some. f ∙ lookup-earliest s (a .name .now) some)
 
 pub row-of-spec : {M : Type 1} → statement M
 row-of-spec = tie.close (tie.spec hash-requires find-requires returns)
