@@ -1,5 +1,10 @@
 // Numbers the names of rows: the number of a name is the earliest row that has it. New names with one hash are a chain, from a head
 // through links that fall, in the work buffer.
+use rows::DUE_BASE;
+use rows::HEAD_BASE;
+use rows::NAME_BASE;
+use rows::OFFSETS;
+use rows::ROWS_MOST;
 ghost use mathlib.Core.Path.{_≡_};
 ghost use Prim.Native.Nat.{ℕ, _<_, _≤_};
 ghost use lib.ListN.{length};
@@ -7,6 +12,9 @@ ghost use mathlib.Core.List.{List, []};
 ghost use Rattle.text.specs.Bytes.{Bytes};
 ghost use Rattle.names.specs.Names.{earliest};
 ghost use Rattle.names.specs.Chains.{Names, partOf, headAt, linkAt, found, lookup, placed, entered, added, cleared};
+
+// How many hashes there are.
+const HASHES: usize = 4096;
 
 // The part of the text from an offset on; none where it is not inside.
 fn part(text: &[u8], at: usize, len: usize) -> &[u8]
@@ -25,7 +33,7 @@ fn part(text: &[u8], at: usize, len: usize) -> &[u8]
 fn head(work: &[u32], hash: usize) -> usize
     ensures { λ r. ⌜ (r ≡ headAt (now (work .entry)) hash) × (r < 4294967296) ⌝ }
 {
-    rows::get(work, 8192 + hash % 4096)
+    rows::get(work, HEAD_BASE + hash % HASHES)
 }
 
 // The row (and one) after row j in its chain, or 0.
@@ -34,11 +42,11 @@ fn link(work: &[u32], j: usize) -> usize
     ensures { λ r. ⌜ (r ≡ linkAt (now (work .entry)) j) × (r ≤ j) ⌝ }
 {
     let s = rows::same(work, j);
-    if s < 4096 {
+    if s < ROWS_MOST {
         return 0;
     }
-    if s - 4096 <= j {
-        return s - 4096;
+    if s - ROWS_MOST <= j {
+        return s - ROWS_MOST;
     }
     0
 }
@@ -55,7 +63,7 @@ fn find(text: &[u8], work: &[u32], hash: usize, name: &[u8]) -> usize
         }
         c = link(work, j);
     }
-    4096
+    ROWS_MOST
 }
 
 // The earliest row that has the name; 4,096 where there is none. It finds what `lookup` finds in any buffer, and where the buffer holds
@@ -72,7 +80,7 @@ pub fn place(work: &mut [u32], i: usize, at: usize)
     requires { ⌜ i < 4294967296 ⌝ }
     ensures { λ _. ⌜ now (work .exit) ≡ placed (now (work .entry)) i at ⌝ }
 {
-    rows::put(work, 4096 + i, at)
+    rows::put(work, NAME_BASE + i, at)
 }
 
 // Writes row i's name, where r is the earliest row that has it, or 4,096.
@@ -80,13 +88,13 @@ fn enter(work: &mut [u32], i: usize, at: usize, hash: usize, r: usize)
     requires { ⌜ (i < 4294967296) × (at < 4294967296) ⌝ }
     ensures { λ _. ⌜ now (work .exit) ≡ entered (now (work .entry)) i at hash r ⌝ }
 {
-    if r < 4096 {
-        rows::put(work, 4096 + i, at + 65536 * r);
+    if r < ROWS_MOST {
+        rows::put(work, NAME_BASE + i, at + OFFSETS * r);
         return;
     }
     let h = head(work, hash);
-    rows::put(work, 4096 + i, at + 65536 * (4096 + h));
-    rows::put(work, 8192 + hash % 4096, i + 1)
+    rows::put(work, NAME_BASE + i, at + OFFSETS * (ROWS_MOST + h));
+    rows::put(work, HEAD_BASE + hash % HASHES, i + 1)
 }
 
 // Row i has the name at the offset, with a length and a hash.
@@ -103,8 +111,8 @@ pub fn clear(work: &mut [u32])
     requires { ⌜ 16384 ≤ length (now work) ⌝ }
     ensures { λ _. ⌜ now (work .exit) ≡ cleared (now (work .entry)) ⌝ }
 {
-    let mut i = 8192;
-    while i < 12288 {
+    let mut i = HEAD_BASE;
+    while i < DUE_BASE {
         work[i] = 0;
         i += 1;
     }

@@ -4,6 +4,21 @@ ghost use Prim.Native.Nat.{ℕ, _%_, _<_};
 ghost use lib.ListN.{getD, set};
 ghost use Rattle.rows.specs.Layout.{kindAt, belowAt, offsetAt, sameAt, numberAt};
 
+// The most rows.
+pub const ROWS_MOST: usize = 4096;
+
+// Where the rows' second numbers, the heads of the names' chains, and the agenda stand.
+pub const NAME_BASE: usize = 4096;
+
+pub const HEAD_BASE: usize = 8192;
+
+pub const DUE_BASE: usize = 12288;
+
+// A row's first number is its kind and KINDS times the lines below it; its second an offset and OFFSETS times `same`.
+pub const KINDS: usize = 32;
+
+pub const OFFSETS: usize = 65536;
+
 fn wide(x: u32) -> usize
     ensures { λ r. ⌜ (r ≡ x) × (r < 4294967296) ⌝ }
 {
@@ -33,14 +48,14 @@ pub fn put(work: &mut [u32], i: usize, v: usize)
 pub fn kind(work: &[u32], i: usize) -> usize
     ensures { λ r. ⌜ r ≡ kindAt (now (work .entry)) i ⌝ }
 {
-    get(work, i) % 32
+    get(work, i) % KINDS
 }
 
 // How many lines are below it.
 pub fn below(work: &[u32], i: usize) -> usize
     ensures { λ r. ⌜ r ≡ belowAt (now (work .entry)) i ⌝ }
 {
-    get(work, i) / 32
+    get(work, i) / KINDS
 }
 
 // Where its name starts, or the line if it has no name.
@@ -48,14 +63,14 @@ pub fn offset(work: &[u32], i: usize) -> usize
     requires { ⌜ i < 4294967296 ⌝ }
     ensures { λ r. ⌜ r ≡ offsetAt (now (work .entry)) i ⌝ }
 {
-    get(work, 4096 + i) % 65536
+    get(work, NAME_BASE + i) % OFFSETS
 }
 
 pub fn same(work: &[u32], i: usize) -> usize
     requires { ⌜ i < 4294967296 ⌝ }
     ensures { λ r. ⌜ r ≡ sameAt (now (work .entry)) i ⌝ }
 {
-    get(work, 4096 + i) / 65536
+    get(work, NAME_BASE + i) / OFFSETS
 }
 
 // The number of its name: the earliest row that has it.
@@ -64,7 +79,7 @@ pub fn number(work: &[u32], i: usize) -> usize
     ensures { λ r. ⌜ r ≡ numberAt (now (work .entry)) i ⌝ }
 {
     let s = same(work, i);
-    if s < 4096 {
+    if s < ROWS_MOST {
         return s;
     }
     i
