@@ -1,0 +1,11 @@
+-- What the line's proofs share. That a cursor's steps find the line: Cut to BySteps. For the code: Keys, Letters, Tail.
+pub mod Cut
+pub mod Rows
+pub mod Due
+pub mod Formed
+pub mod Shaped
+pub mod Words
+pub mod BySteps
+pub mod Keys
+pub mod Letters
+pub mod Tail
