@@ -5,7 +5,7 @@ use Prim.Native.String.{String}
 use mathlib.Core.Path.{_≡_, refl}
 use mathlib.Core.List.{List, [], _∷_, _++_, map}
 use Rattle.text.specs.Bytes.{Bytes, bytes}
-use Rattle.answers.specs.Answers.{CheckAnswer, accepted, faulty, ReportAnswer, written, MessageAnswer, wrote, noFault, tooLong, check, report, message, name, over}
+use Rattle.answers.specs.Answers.{faulty, ReportAnswer, written, MessageAnswer, wrote, noFault, tooLong, check, report, message, name, over}
 use Rattle.answers.specs.Printed.{printed}
 
 pub namecheck-example : printed (bytes "tree\t0\t1\nexpr\t0\t7\ncall\t0\t7\t1\nvar\t0\t4\tprnt\nlit\t5\t6\n") ≡ bytes "fault\t9\t0\t7\tUndefined function: prnt\nfaults\t1\n"

@@ -1,10 +1,10 @@
 -- The longest texts, as a table like that of refusals in the crate `text`: 65,536 bytes, 4,096 lines after the first. By computation.
 use Prim.Native.Nat.{ℕ}
-use mathlib.Core.Path.{_≡_, refl}
+use mathlib.Core.Path.{refl}
 use mathlib.Core.List.{List, [], _∷_, _++_}
 use lib.ListN.{replicate}
 use Rattle.text.specs.Bytes.{Bytes, bytes}
-use Rattle.text.proofs.Examples.{Shown, read, refused, Example, example, times, Hold}
+use Rattle.text.proofs.Examples.{read, refused, Example, example, times, Hold}
 
 abbrev passes : ℕ → Bytes
 passes n = times n (bytes "pass\t0\t1\n")

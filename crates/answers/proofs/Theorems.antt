@@ -1,17 +1,17 @@
 -- The answers of the calls agree with each other and with the Rust walk: demand 3 and the proof half of demand 2, about the definitions.
-use Prim.Native.Nat.{ℕ, zero, suc, _+_, _*_}
+use Prim.Native.Nat.{ℕ, _*_}
 use native.Mathlib.Omega.{arith}
 use mathlib.Core.Path.{_≡_, refl, sym, ap, _∙_, subst}
 use mathlib.Core.Bool.{Bool, true, false}
-use mathlib.Core.List.{List, [], _∷_, _++_}
+use mathlib.Core.List.{List, [], _∷_}
 use mathlib.Core.Option.{none, some}
 use lib.Dec.{ltb}
-use lib.ListN.{length, take, length-append}
+use lib.ListN.{length, take}
 use Rattle.text.specs.Bytes.{Bytes}
 use Rattle.text.specs.Tree.{Tree}
 use Rattle.text.specs.Reading.{Reading, tree, refusal, reading}
-use Rattle.faults.specs.Faults.{Fault, faults, recordLength, record7, records}
-use Rattle.faults.specs.Rust.{Checked, analyze-with-globals, errorOf, firstError}
+use Rattle.faults.specs.Faults.{Fault, faults, recordLength, records}
+use Rattle.faults.specs.Rust.{Checked, analyze-with-globals, firstError}
 use Rattle.faults.proofs.Theorems.{rust-walk}
 use Rattle.answers.specs.Answers.{CheckAnswer, accepted, faulty, firstRecord, checkOf, check, ReportAnswer, written, reported, reportOf, report, MessageAnswer, wrote, tooLong, noFault, faultAt, messageOr, messageIn, message}
 

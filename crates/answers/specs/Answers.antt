@@ -1,13 +1,12 @@
 -- The answers of the four public calls, as functions of the text's bytes, the length of the work buffer, the length of the output
 -- buffer and i. "No answer depends on what [the work buffer] held before": its contents are no argument here, and neither are the output's.
 use Prim.Native.Nat.{ℕ, zero, suc, _*_}
-use mathlib.Core.Bool.{Bool, true, false}
+use mathlib.Core.Bool.{true, false}
 use mathlib.Core.List.{List, [], _∷_, _++_}
 use mathlib.Core.Option.{Option, none, some}
 use lib.Dec.{ltb}
 use lib.ListN.{length, drop}
 use Rattle.text.specs.Bytes.{Bytes, Part, noPart}
-use Rattle.text.specs.Tree.{Tree}
 use Rattle.text.specs.Reading.{Reading, tree, refusal, reading}
 use Rattle.faults.specs.Faults.{Fault, faults, recordLength, record7, records, messageOf}
 

@@ -1,10 +1,9 @@
 -- What `namecheck` prints: from the bytes of standard input to the bytes of standard output.
 use Prim.Native.Nat.{ℕ, zero, suc, _+_, _/_, _%_}
 use Prim.Native.String.{String}
-use mathlib.Core.Bool.{Bool, true, false}
+use mathlib.Core.Bool.{true, false}
 use mathlib.Core.List.{List, [], _∷_, _++_}
 use lib.Dec.{ltb}
-use lib.ListN.{length}
 use Rattle.text.specs.Bytes.{Bytes, bytes}
 use Rattle.text.specs.Reading.{Reading, tree, refusal, reading, shortestWork}
 use Rattle.faults.specs.Faults.{Fault, faults, messageOf}

@@ -1,7 +1,7 @@
 // A cursor over the fields of a line: it goes by value, and each step hands back the next one. A step that finds something else hands
 // back a cursor that is not ok, which takes nothing any more, so that a line's reader needs no branch.
 ghost use mathlib.Core.Path.{_≡_};
-ghost use Prim.Native.Nat.{ℕ, _+_, _<_};
+ghost use Prim.Native.Nat.{_+_, _<_};
 ghost use lib.ListN.{length, getD};
 ghost use Rattle.text.specs.Bytes.{same, isDigit, isNameByte};
 ghost use Rattle.cursor.specs.Fields.{isEnd, fieldAt, refused, startAt, fieldFrom, numberFrom, hashOf, nameFrom, mix, endFrom, endsAt, pastEnd, noNumber, noName};

@@ -1,15 +1,13 @@
 -- The bindings of a part of the tree, part by part, and where they stand: each within the part's lines, in the block around it
 -- or in a block whose line is in the part.
-use Prim.Native.Nat.{ℕ, zero, suc, _+_, _≤_, _<_}
+use Prim.Native.Nat.{ℕ, suc, _+_, _≤_, _<_}
 use native.Mathlib.Omega.{arith}
 use mathlib.Core.Path.{_≡_, refl, sym, ap, ap₂, _∙_}
 use mathlib.Core.Logic.{_≢_}
-use mathlib.Core.Bool.{Bool, true, false, _&&_}
 use mathlib.Core.List.{List, [], _∷_, _++_, append-assoc, append-nil, map}
-use lib.Dec.{eqb}
-use Rattle.text.specs.Bytes.{Part, any}
-use Rattle.text.specs.Tree.{Line, Expr, Exprs, Attrs, Stmt, Stmts, Methods, var, node, access, tuple, call, lambda, enil, econs, anil, acons, simple, assign, block, choice, for, def, class, snil, scons, mnil, mcons, belowE, lenE, lenEs, lenAs, lenS, lenSs, lenMs}
-use Rattle.faults.specs.Position.{Placed, Home, inModule, inDef, inMethod, Where, Use, value, callee, Visited, underClass, linesE, linesEs, linesT, linesTs, linesAs, linesS, linesSs, linesMs, underLambda, underBlock}
+use Rattle.text.specs.Bytes.{Part}
+use Rattle.text.specs.Tree.{Line, Expr, Exprs, Attrs, Stmt, Stmts, Methods, var, node, access, tuple, call, lambda, enil, econs, anil, acons, simple, assign, block, choice, for, def, class, snil, scons, mnil, mcons, lenE, lenEs, lenS, lenSs, lenMs}
+use Rattle.faults.specs.Position.{Home, inModule, inDef, inMethod, Where, Use, value, Visited, underClass, linesE, linesEs, linesT, linesTs, linesAs, linesS, linesSs, linesMs, underLambda, underBlock}
 use Rattle.faults.specs.Faults.{How, byDef, byClass, byParam, byFor, byTarget, Binding, bind, params, boundAt, boundIn}
 use Rattle.faults.proofs.Lists.{Each, each-append, each-map}
 

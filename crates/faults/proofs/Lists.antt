@@ -2,13 +2,13 @@
 use Prim.Native.Nat.{ℕ, _+_, _≤_}
 use native.Mathlib.Omega.{arith}
 use mathlib.Core.Path.{_≡_, refl, sym, ap, ap₂, _∙_}
-use mathlib.Core.Bool.{Bool, true, false, cond, _&&_, _||_, or-assoc, or-true, false≢true}
+use mathlib.Core.Bool.{Bool, true, false, cond, _&&_, _||_, or-assoc, or-true}
 use mathlib.Core.List.{List, [], _∷_, _++_}
 use lib.Dec.{eqb}
 use lib.ListN.{length}
 use borrow.Author.Tests.{eqb-true, eqb-false, eq-eqb, ne-eqb}
 use Rattle.text.specs.Bytes.{Bytes, Part, same, mem, any, all}
-pub use Rattle.text.proofs.Lists.{and-split, All, all-nil as none, all-cons as also}
+pub use Rattle.text.proofs.Lists.{and-split, same-eq, All, all-nil as none, all-cons as also}
 use Rattle.faults.specs.Position.{Visited}
 use Rattle.faults.specs.Faults.{Binding, Fault, faultOf, judge, keep}
 
@@ -29,12 +29,6 @@ same-sym [] [] = refl
 same-sym [] (b ∷ y) = refl
 same-sym (a ∷ x) [] = refl
 same-sym (a ∷ x) (b ∷ y) = ap₂ _&&_ (eqb-sym a b) (same-sym x y)
-
-pub same-eq : (x y : Bytes) → same x y ≡ true → x ≡ y
-same-eq [] [] e = refl
-same-eq [] (b ∷ y) e = absurd (false≢true e)
-same-eq (a ∷ x) [] e = absurd (false≢true e)
-same-eq (a ∷ x) (b ∷ y) e = let s : (eqb a b ≡ true) × (same x y ≡ true) = and-split (eqb a b) (same x y) e in ap₂ _∷_ (eqb-true a b (s .0)) (same-eq x y (s .1))
 
 pub mem-append : (x : Bytes) (a b : List Part) → mem x (a ++ b) ≡ (mem x a || mem x b)
 mem-append x [] b = refl

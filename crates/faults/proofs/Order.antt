@@ -9,13 +9,13 @@ use mathlib.Core.Logic.{_≢_}
 use mathlib.Core.Bool.{Bool, true, false, cond, not}
 use mathlib.Core.List.{List, [], _∷_, _++_, append-assoc, append-nil}
 use lib.Dec.{eqb}
-use Rattle.text.specs.Bytes.{Part, mem}
+use Rattle.text.specs.Bytes.{mem}
 use Rattle.text.specs.Tree.{Line, Expr, Exprs, Stmt, Stmts, Methods, Tree, var, node, access, tuple, call, lambda, enil, econs, simple, assign, block, choice, for, def, class, snil, scons, mnil, mcons, lenE, lenEs, lenAs, lenS, lenSs, lenMs, firstLine}
-use Rattle.faults.specs.Position.{Placed, Home, inModule, inDef, inMethod, Use, value, callee, visited}
-use Rattle.faults.specs.Faults.{Fault, faultAt, outermost, unboundHere, undefinedHere, judgeRead, lacksSelf, refusedAt, selfless, unless, bindings, judge, faults}
+use Rattle.faults.specs.Position.{Placed, Home, inModule, inDef, inMethod, Use, value, callee}
+use Rattle.faults.specs.Faults.{Fault, faultAt, outermost, unboundHere, undefinedHere, judgeRead, lacksSelf, refusedAt, selfless, unless, faults}
 use borrow.Author.Tests.{ne-eqb}
 use Rattle.faults.proofs.Lists.{eqb-same}
-use Rattle.faults.proofs.Walk.{State, assigning, naming, entered, afterT, afterS, afterSs, Mode, plain, captures, inside, Env, withParams, defEnv, methodEnv, moduleEnv, inClasses, selfFault, test, once, walkE, walkEs, walkT, walkTs, walkS, walkSs, walkMs, startState, walk}
+use Rattle.faults.proofs.Walk.{State, assigning, naming, entered, afterT, afterS, afterSs, Mode, plain, captures, inside, Env, withParams, defEnv, methodEnv, moduleEnv, inClasses, test, once, walkE, walkEs, walkT, walkTs, walkS, walkSs, walkMs, startState, walk}
 use Rattle.faults.proofs.Once.{placed, byPlaceOnce, faults-once}
 use Rattle.faults.proofs.Raw.{rawE, rawEs, rawT, rawTs, rawS, rawSs, rawMs, raw-faults}
 

@@ -1,18 +1,18 @@
 -- In the text's order, the faults by position are those of a walk that carries the names in view, the locals and the assigned names.
 -- The idea: at each line the names in view are those that a binding standing earlier binds in a block around, and a part of the tree
 -- adds just its own bindings to what stands earlier (`Covers`).
-use Prim.Native.Nat.{ℕ, zero, suc, _+_, _≤_, _<_}
+use Prim.Native.Nat.{ℕ, suc, _+_, _≤_, _<_}
 use native.Mathlib.Omega.{arith}
 use mathlib.Core.Path.{_≡_, refl, sym, ap, ap₂, _∙_, subst}
 use mathlib.Core.Logic.{_≢_}
-use mathlib.Core.Bool.{Bool, true, false, not, _&&_, _||_, or-assoc, or-comm, or-false, or-true, and-false, and-true}
+use mathlib.Core.Bool.{Bool, true, false, _&&_, _||_, or-assoc, or-comm, or-false, and-false, and-true}
 use mathlib.Core.List.{List, [], _∷_, _++_, append-assoc, append-nil, map}
-use lib.Dec.{eqb, leb}
+use lib.Dec.{eqb}
 use Rattle.text.specs.Bytes.{Bytes, Part, same, mem, any}
-use Rattle.text.specs.Tree.{Line, Expr, Exprs, Attrs, Stmt, Stmts, Methods, Tree, var, node, access, tuple, call, lambda, enil, econs, anil, acons, simple, assign, block, choice, for, def, class, snil, scons, mnil, mcons, lenE, lenEs, lenAs, lenS, lenSs, lenMs, firstLine}
+use Rattle.text.specs.Tree.{Line, Expr, Exprs, Attrs, Stmt, Stmts, Methods, Tree, var, node, access, tuple, call, lambda, enil, econs, anil, acons, simple, assign, block, choice, for, def, class, snil, scons, mnil, mcons, lenE, lenEs, lenS, lenSs, lenMs, firstLine}
 use Rattle.faults.specs.Builtins.{builtinNames}
-use Rattle.faults.specs.Position.{Placed, Home, inModule, inDef, inMethod, Where, numbers, path, blocks, atModule, underLambda, underBlock, Use, value, callee, Visited, underClass, linesE, linesEs, linesT, linesTs, linesAs, linesS, linesSs, linesMs, visited}
-use Rattle.faults.specs.Faults.{How, given, byDef, byClass, byParam, byFor, byTarget, Binding, bind, params, boundIn, givenTo, bindings, earlier, among, bound, inView, lambdaParam, own, counts, assigned, Fault, judgeRead, refusedAt, faultOf, judge}
+use Rattle.faults.specs.Position.{Placed, Home, inModule, inDef, inMethod, Where, numbers, path, atModule, underLambda, underBlock, Use, value, callee, Visited, underClass, linesE, linesEs, linesT, linesTs, linesAs, linesS, linesSs, linesMs, visited}
+use Rattle.faults.specs.Faults.{How, given, byDef, byClass, byParam, byFor, byTarget, Binding, bind, params, givenTo, bindings, earlier, among, bound, lambdaParam, own, counts, assigned, Fault, judgeRead, refusedAt, faultOf, judge}
 use Rattle.faults.specs.Rust.{collect-locals, collect-locals-of, collect-locals-from-target, collect-locals-from-targets}
 use borrow.Author.Tests.{ne-eqb, le-leb, lt-leb}
 use Rattle.faults.proofs.Lists.{eqb-same, mem-append, any-append, any-same, any-or, any-none, Each, each-append, each-map, any-each, any-quiet}

@@ -3,14 +3,13 @@ use Prim.Native.Nat.{ℕ}
 use Prim.Native.String.{String}
 use mathlib.Core.Path.{_≡_, refl}
 use mathlib.Core.List.{List, [], _∷_, map}
-use mathlib.Core.Option.{Option, none, some}
-use Rattle.text.specs.Bytes.{Bytes, bytes}
-use Rattle.text.specs.Tree.{Tree}
+use mathlib.Core.Option.{none, some}
+use Rattle.text.specs.Bytes.{bytes}
 use Rattle.text.specs.Reading.{Reading, tree, refusal, readTree}
 use lib.ListN.{length}
 use Rattle.faults.specs.Builtins.{Builtin, builtins}
 use Rattle.faults.specs.Faults.{fullReport}
-use Rattle.faults.specs.Rust.{SemanticError, Checked, analyze-with-globals}
+use Rattle.faults.specs.Rust.{Checked, analyze-with-globals}
 
 -- a text's full report and the Rust's answer, or its refusal and line
 pub data Outcome : Type 0 where

@@ -2,9 +2,9 @@
 -- where it is found. It stands between the faults by position and the Rust walk, and is what code can follow.
 -- The names in view are one list: a block's names are put in front on the way in, and what was there before counts again on the way out.
 use Prim.Native.Nat.{ℕ, suc, _+_}
-use mathlib.Core.Bool.{Bool, true, false, cond, not}
+use mathlib.Core.Bool.{Bool, cond, not}
 use mathlib.Core.List.{List, [], _∷_, _++_}
-use Rattle.text.specs.Bytes.{Bytes, Part, mem}
+use Rattle.text.specs.Bytes.{Part, mem}
 use Rattle.text.specs.Tree.{Line, Expr, Exprs, Stmt, Stmts, Methods, Tree, var, node, access, tuple, call, lambda, enil, econs, simple, assign, block, choice, for, def, class, snil, scons, mnil, mcons, lenE, lenS, lenSs, firstLine}
 use Rattle.faults.specs.Builtins.{builtinNames}
 use Rattle.faults.specs.Position.{Placed, Home, inModule, inDef, inMethod, Use, value, callee}

@@ -2,8 +2,7 @@
 -- Nothing here looks at what came before: a line's place follows from the lines around it alone.
 use Prim.Native.Nat.{ℕ, suc, _+_}
 use mathlib.Core.List.{List, [], _∷_, _++_, map}
-use Rattle.text.specs.Bytes.{Part}
-use Rattle.text.specs.Tree.{Line, Expr, Exprs, Attrs, Stmt, Stmts, Methods, Tree, var, node, access, tuple, call, lambda, enil, econs, anil, acons, simple, assign, block, choice, for, def, class, snil, scons, mnil, mcons, lenE, lenEs, lenS, lenSs, lenMs, firstLine}
+use Rattle.text.specs.Tree.{Line, Expr, Exprs, Attrs, Stmt, Stmts, Methods, Tree, var, node, access, tuple, call, lambda, enil, econs, anil, acons, simple, assign, block, choice, for, def, class, snil, scons, mnil, mcons, lenE, lenS, lenSs, lenMs, firstLine}
 
 -- a line and its number
 pub record Placed : Type 0 where

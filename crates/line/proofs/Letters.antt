@@ -11,7 +11,7 @@ use lib.ListN.{length, getD, drop, length-drop}
 use borrow.Author.Tests.{eqb-true, eq-eqb, ltb-true}
 use Rattle.text.specs.Bytes.{Bytes, same, all}
 use Rattle.text.specs.Lines.{Word, words}
-use Rattle.text.proofs.Lists.{and-split, next-of}
+use Rattle.text.proofs.Lists.{and-split, next-of, same-eq}
 use Rattle.cursor.specs.Fields.{fieldAt, refused, past, takes}
 use Rattle.cursor.specs.declared.Cursor.{Cursor}
 use Rattle.cursor.proofs.Fields.{field-first}
@@ -45,12 +45,6 @@ word-left false k n p f h e o = go (k .next .ok)
 -- the same field, by another test
 takes-too : (p q : Bytes → Bool) (text : Bytes) (c : Cursor) → takes p text c ≡ true → q (fieldAt text (c .at)) ≡ true → takes q text c ≡ true
 takes-too p q text c e h = let f = takes-facts p text c e in ap₂ _&&_ (f .0) (ap₂ _&&_ (f .1) (ap₂ _&&_ h (f .3)))
-
-same-eq : (x y : Bytes) → same x y ≡ true → x ≡ y
-same-eq [] [] e = refl
-same-eq [] (b ∷ y) e = absurd (false≢true e)
-same-eq (a ∷ x) [] e = absurd (false≢true e)
-same-eq (a ∷ x) (b ∷ y) e = let s = and-split (eqb a b) (same x y) e in ap₂ _∷_ (eqb-true a b (s .0)) (same-eq x y (s .1))
 
 -- ---- words tried one after the other, from none: the rows of those words, the last one first, and the kind then
 pub data Tried (text : Bytes) (c : Cursor) : List ℕ → Kind → Type 0 where

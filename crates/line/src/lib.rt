@@ -3,7 +3,6 @@ use cursor::Cursor;
 use cursor::Name;
 use cursor::Number;
 ghost use mathlib.Core.Path.{_≡_};
-ghost use lib.Dec.{ltb};
 ghost use Rattle.line.specs.Line.{lineAt, noLine};
 ghost use Rattle.line.specs.Steps.{noKind, kindFrom, orWord, shapeOf, spanFrom, countFrom, ownFrom, paramsFrom};
 

@@ -3,39 +3,16 @@
 use Prim.Native.Nat.{ℕ, zero, suc, _+_, _<_, suc-le-suc}
 use native.Mathlib.Nat.{le-of-suc-le-suc, not-suc-le-zero}
 use native.Mathlib.Omega.{arith}
-use mathlib.Core.Path.{_≡_, refl, sym, ap, ap₂, _∙_}
-use mathlib.Core.Bool.{Bool, true, false, true≢false, false≢true}
+use mathlib.Core.Path.{_≡_, refl, sym, ap, _∙_}
+use mathlib.Core.Bool.{Bool, true, false}
 use mathlib.Core.List.{List, [], _∷_, _++_}
 use mathlib.Core.Logic.{_⊎_, inl, inr}
-use lib.Dec.{eqb}
 use lib.ListN.{length, getD, length-append, List·getD-append}
 use lib.Seq.{getD-append-seam}
-use borrow.Author.Tests.{eqb-true, eq-eqb}
 use Rattle.text.specs.Bytes.{Bytes, same}
-use Rattle.text.proofs.Lists.{and-split}
+use Rattle.text.proofs.Lists.{same-refl, same-eq, same-false, other-same}
 use Rattle.rows.specs.Layout.{rowsMost, numberAt}
 use Rattle.names.specs.Names.{earliestFrom, earliest, Numbered}
-
--- ---- the same bytes
-pub same-refl : (x : Bytes) → same x x ≡ true
-same-refl [] = refl
-same-refl (a ∷ x) = rw (eq-eqb a a refl) (same-refl x)
-
-pub same-true : (x y : Bytes) → same x y ≡ true → x ≡ y
-same-true [] [] h = refl
-same-true [] (b ∷ y) h = absurd (false≢true h)
-same-true (a ∷ x) [] h = absurd (false≢true h)
-same-true (a ∷ x) (b ∷ y) h = let s = and-split (eqb a b) (same x y) h in ap₂ _∷_ (eqb-true a b (s .0)) (same-true x y (s .1))
-
-pub same-false : (x y : Bytes) → same x y ≡ false → x ≡ y → ⊥
-same-false x y h e = true≢false (sym (same-refl x) ∙ (ap (same x) e ∙ h))
-
-pub other-same : (x y : Bytes) → (x ≡ y → ⊥) → same x y ≡ false
-other-same x y d = go (same x y) refl
-  where
-    go : (t : Bool) → same x y ≡ t → t ≡ false
-    go true e = absurd (d (same-true x y e))
-    go false e = refl
 
 -- ---- one name more
 abbrev pub more : List Bytes → Bytes → List Bytes
@@ -69,7 +46,7 @@ sought (y ∷ names) x = go (same y x) refl (sought names x)
     past j d b (suc k) l e = b k (le-of-suc-le-suc l) e
 
     go : (t : Bool) → same y x ≡ t → ((j : ℕ) × First names x j) ⊎ Absent names x → ((j : ℕ) × First (y ∷ names) x j) ⊎ Absent (y ∷ names) x
-    go true e s = inl (0, record { low = omega arith; is = same-true y x e; before = λ k l. absurd (not-suc-le-zero l) })
+    go true e s = inl (0, record { low = omega arith; is = same-eq y x e; before = λ k l. absurd (not-suc-le-zero l) })
     go false e (inl (j, f)) = inl (suc j, record { low = suc-le-suc (f .low); is = f .is; before = past j (same-false y x e) (f .before) })
     go false e (inr a) = inr (past (length names) (same-false y x e) a)
 

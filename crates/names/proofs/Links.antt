@@ -16,7 +16,8 @@ use Rattle.cursor.specs.Fields.{fieldAt, mix, hashFrom, hashOf}
 use Rattle.rows.specs.Layout.{rowsMost, offsetAt}
 use Rattle.names.specs.Names.{earliest}
 use Rattle.names.specs.Chains.{headAt, linkAt, walk, found, New, Link, Names}
-use Rattle.names.proofs.Earliest.{more, First, Absent, sought, earliest-first, earliest-absent, same-true, same-false, more-old}
+use Rattle.names.proofs.Earliest.{more, First, Absent, sought, earliest-first, earliest-absent, more-old}
+use Rattle.text.proofs.Lists.{same-eq, same-false}
 
 le-or-lt : (a b : ℕ) → (a ≤ b) ⊎ (b < a)
 le-or-lt a b = go (leb a b) refl
@@ -105,7 +106,7 @@ module _ {text : Bytes} {names : List Bytes} {w : List ℕ} (s : Names text name
       name = s .offsets j low (new .0)
 
       go : (t : Bool) → same (fieldAt text (offsetAt w j)) x ≡ t → (elim t [ true ↦ j | false ↦ rest ]) ≡ earliest names x
-      go true e = sym (earliest-first (new-is-first {names = names} {x = x} low new (sym name ∙ same-true _ x e)))
+      go true e = sym (earliest-first (new-is-first {names = names} {x = x} low new (sym name ∙ same-eq _ x e)))
       go false e = more (λ k a q n z. ⊎-elim (λ o. past k o q n z) (λ o. ⊎-elim
           (λ i. same-false _ x e (name ∙ (ap (λ r. getD names r []) i ∙ z)))
           (λ i. l .skip k o i n (ap hashOf z)) (eq-or-lt-of-le a)) (le-or-lt m k))

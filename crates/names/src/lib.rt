@@ -6,7 +6,7 @@ use rows::NAME_BASE;
 use rows::OFFSETS;
 use rows::ROWS_MOST;
 ghost use mathlib.Core.Path.{_≡_};
-ghost use Prim.Native.Nat.{ℕ, _<_, _≤_};
+ghost use Prim.Native.Nat.{_<_, _≤_};
 ghost use lib.ListN.{length};
 ghost use mathlib.Core.List.{List, []};
 ghost use Rattle.text.specs.Bytes.{Bytes};

@@ -1,13 +1,13 @@
 -- Reading with no recursion: an agenda says what is due, the next thing first. A turn takes the next line, writes its row, and puts the
 -- lines that are due below it on the agenda; when they are read, the row gets their number.
 use Prim.Native.Nat.{ℕ, zero, suc, pred, _*_}
-use mathlib.Core.Bool.{Bool, true, false, cond}
+use mathlib.Core.Bool.{cond}
 use mathlib.Core.List.{List, [], _∷_, _++_}
 use mathlib.Core.Option.{Option, none, some}
 use mathlib.Core.Path.{_≡_}
 use lib.Dec.{eqb}
 use lib.ListN.{length}
-use Rattle.text.specs.Tree.{Line, Tree}
+use Rattle.text.specs.Tree.{Tree}
 use Rattle.text.specs.Lines.{StmtForm, ExprForm, Form, Parsed, countAt, sortOf}
 use Rattle.text.specs.Reading.{Rest, Read, got, Due, line, tooDeep, andThen, globals, stmts, stmt, deepest}
 use Rattle.reader.specs.Rows.{Row, row, rowsT}

@@ -2,7 +2,7 @@
 use Prim.Native.Nat.{ℕ, _+_}
 use mathlib.Core.List.{List, [], _∷_, _++_, map}
 use Rattle.text.specs.Bytes.{Part}
-use Rattle.text.specs.Tree.{Line, Expr, Exprs, Attrs, Stmt, Stmts, Methods, Tree, belowE, lenE, lenEs, lenAs, lenS, lenSs, lenMs, var, node, access, tuple, call, lambda, enil, econs, anil, acons, simple, assign, block, choice, for, def, class, snil, scons, mnil, mcons}
+use Rattle.text.specs.Tree.{Line, Expr, Exprs, Attrs, Stmt, Stmts, Methods, Tree, lenE, lenEs, lenAs, lenSs, lenMs, var, node, access, tuple, call, lambda, enil, econs, anil, acons, simple, assign, block, choice, for, def, class, snil, scons, mnil, mcons}
 
 pub record Row : Type 0 where
   pub line : Line

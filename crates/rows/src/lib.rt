@@ -1,6 +1,6 @@
 // The work buffer's numbers: read and written at any index, and the parts of a row.
 ghost use mathlib.Core.Path.{_≡_};
-ghost use Prim.Native.Nat.{ℕ, _%_, _<_};
+ghost use Prim.Native.Nat.{_%_, _<_};
 ghost use lib.ListN.{getD, set};
 ghost use Rattle.rows.specs.Layout.{kindAt, belowAt, offsetAt, sameAt, numberAt};
 

@@ -1,17 +1,40 @@
--- Laws of lists and of tests that the theorems about reading share.
+-- Laws of lists, of tests and of bytes that the theorems share.
 use Prim.Native.Nat.{ℕ, zero, suc, _<_}
 use native.Mathlib.Omega.{arith}
-use mathlib.Core.Path.{_≡_, refl, sym, ap, _∙_}
-use mathlib.Core.Bool.{Bool, true, false, _&&_, false≢true}
+use mathlib.Core.Path.{_≡_, refl, sym, ap, ap₂, _∙_}
+use mathlib.Core.Bool.{Bool, true, false, _&&_, true≢false, false≢true}
 use mathlib.Core.List.{List, [], _∷_}
 use mathlib.Core.Option.{some}
 use lib.ListN.{length, drop, getD, getElem?}
 use lib.Seq.{drop-nil}
-use Rattle.text.specs.Bytes.{all}
+use lib.Dec.{eqb}
+use borrow.Author.Tests.{eqb-true, eq-eqb}
+use Rattle.text.specs.Bytes.{Bytes, same, all}
 
 pub and-split : (a b : Bool) → (a && b) ≡ true → (a ≡ true) × (b ≡ true)
 and-split true b e = (refl, e)
 and-split false b e = absurd (false≢true e)
+
+-- ---- the same bytes
+pub same-refl : (x : Bytes) → same x x ≡ true
+same-refl [] = refl
+same-refl (a ∷ x) = rw (eq-eqb a a refl) (same-refl x)
+
+pub same-eq : (x y : Bytes) → same x y ≡ true → x ≡ y
+same-eq [] [] e = refl
+same-eq [] (b ∷ y) e = absurd (false≢true e)
+same-eq (a ∷ x) [] e = absurd (false≢true e)
+same-eq (a ∷ x) (b ∷ y) e = let s : (eqb a b ≡ true) × (same x y ≡ true) = and-split (eqb a b) (same x y) e in ap₂ _∷_ (eqb-true a b (s .0)) (same-eq x y (s .1))
+
+pub same-false : (x y : Bytes) → same x y ≡ false → x ≡ y → ⊥
+same-false x y h e = true≢false (sym (same-refl x) ∙ (ap (same x) e ∙ h))
+
+pub other-same : (x y : Bytes) → (x ≡ y → ⊥) → same x y ≡ false
+other-same x y d = go (same x y) refl
+  where
+    go : (t : Bool) → same x y ≡ t → t ≡ false
+    go true e = absurd (d (same-eq x y e))
+    go false e = refl
 
 -- ---- each element of a list
 pub data All {A : Type 0} (P : A → Type 0) : List A → Type 0 where

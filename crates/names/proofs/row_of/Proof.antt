@@ -1,5 +1,4 @@
 -- What is found for the name's hash; where the buffer holds names, that is the earliest row.
-use Prim.Native.Nat.{ℕ}
 use mathlib.Core.Path.{_≡_, _∙_}
 use borrow.Author.Needs.{needs}
 use Rattle.names.specs.Chains.{lookup}
