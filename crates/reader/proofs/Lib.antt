@@ -1,7 +1,22 @@
--- The proofs about the reader. Agenda has the theorem: turns lead to where the definition of reading leads.
+-- The proofs about the reader. Agenda has the theorem about the agenda: turns lead to where the definition of reading leads. Machine has
+-- the theorem about the machine, whose agenda is in the work buffer: it ends where the definition ends.
 pub mod Agenda
+pub mod Machine
 pub mod Lengths
 pub mod Via
 pub mod Sorts
 pub mod Lined
 pub mod Dues
+pub mod CutText
+pub mod ParsedFacts
+pub mod Same
+pub mod Starts
+pub mod Few
+pub mod Held
+pub mod Written
+pub mod Follows
+pub mod Laws
+pub mod Steps
+pub mod Bounds
+pub mod FirstLine
+pub mod Answered

@@ -11,6 +11,7 @@ use Rattle.text.specs.Tree.{Tree}
 use Rattle.text.specs.Lines.{StmtForm, ExprForm, Form, Parsed, countAt, sortOf}
 use Rattle.text.specs.Reading.{Rest, Read, got, Due, line, tooDeep, andThen, globals, stmts, stmt, deepest}
 use Rattle.reader.specs.Rows.{Row, row, rowsT}
+use Rattle.reader.specs.declared.Children.{Children}
 
 -- `run s n d`: n lines of sort s are due, with d levels left for each; `close i`: what is below row i has been read
 pub data Entry : Type 0 where
@@ -22,14 +23,6 @@ due s zero d more = more
 due s (suc n) d more = run s (suc n) d ∷ more
 
 -- ---- the children of a line: how many of each sort, in the order in which they are due
-pub record Children : Type 0 where
-  pub exprs : ℕ
-  pub stmts : ℕ
-  pub elifs : ℕ
-  pub others : ℕ
-  pub methods : ℕ
-  pub attrs : ℕ
-
 abbrev children : ℕ → ℕ → ℕ → ℕ → ℕ → ℕ → Children
 children e s l o m a = record { exprs = e; stmts = s; elifs = l; others = o; methods = m; attrs = a }
 

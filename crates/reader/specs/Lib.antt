@@ -1,3 +1,5 @@
--- The rows of a tree, and how the reader comes to them.
+-- The rows of a tree, where they stand in the work buffer, and how the reader comes to them.
 pub mod Rows
+pub mod Laid
 pub mod Agenda
+pub mod Machine

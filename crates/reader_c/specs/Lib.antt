@@ -1,0 +1,2 @@
+-- The reader's answer as numbers.
+pub mod Numbers
