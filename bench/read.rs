@@ -102,7 +102,7 @@ const NAMES: [&str; 15] =
 /// A real-looking script: assignments, calls and branches over some sixty names.
 fn script(lines: usize) -> Vec<u8> {
     let mut rng = Numbers(88172645463325252);
-    let mut at = 1000;
+    let mut at = 90000;
     let mut body: Vec<String> = Vec::new();
     let mut statements = 0;
     let var = |rng: &mut Numbers, at: &mut usize| {
@@ -175,7 +175,7 @@ fn main() {
     compare("(b) 4,096 short lines", short.as_bytes(), 300);
     compare("(c) a script of 100 lines", &script(100), 10000);
     compare("4,096 different names", &names(4096, |i| format!("n{i}")), 300);
-    compare("4,096 names, a shared prefix", &names(4096, |i| format!("pump_{i}")), 300);
+    compare("4,096 names, a shared prefix", &names(4096, |i| format!("abc_{i}")), 300);
     compare("4,096 equal names", &names(4096, |_| "needle".into()), 300);
     compare("4,096 names of one hash", &colliding(4096), 3);
     let deep = format!("tree\t0\t1\nexpr\t0\t1\n{}lit\t0\t1\n", "un\t0\t1\n".repeat(62));

@@ -3,10 +3,12 @@ use Prim.Native.Nat.{ℕ, zero, suc, pred, _+_, _-_, _*_, _/_, _%_, _≤_, _<_}
 use native.Mathlib.Numerals.{add-one}
 use native.Mathlib.Omega.{arith}
 use mathlib.Core.Path.{_≡_, refl, sym, ap, _∙_, subst}
+use mathlib.Core.Bool.{Bool, true, false}
 use mathlib.Core.List.{List, [], _∷_, _++_}
 use lib.ListN.{length, getD}
-use borrow.Author.Tests.{eq-eqb, ne-eqb}
+use borrow.Author.Tests.{eq-eqb, ne-eqb, eqb-true}
 use Rattle.text.specs.Bytes.{Bytes}
+use Rattle.text.specs.Tree.{Line}
 use Rattle.text.specs.Lines.{Form, Parsed, countAt}
 use Rattle.text.specs.Reading.{Rest, Read, got, refused, Due, tooDeep, line}
 use Rattle.line.specs.Line.{lineAt, numbersOf}
@@ -14,7 +16,7 @@ use Rattle.reader.specs.Rows.{Row, row}
 use Rattle.reader.specs.Laid.{startOf}
 use Rattle.reader.specs.Agenda.{Entry, run, close, due, dueBelow, childrenIn, State, Phase, on, stopped, closeAt, ofSort, lineDue, opened, turned, turn}
 use Rattle.reader.specs.Machine.{Machine, machine, progressTo, Stack, stack, entryOf, turnBy, turnOf, taken, takenIf, onward, below, dueAt, childrenBy, restAt, Few}
-use Rattle.reader.specs.Machine.{runWord, closeWord, rowClosed, rowWritten, lessened, pushedBelow}
+use Rattle.reader.specs.Machine.{runWord, closeWord, rowClosed, rowWritten, lessened, isLeaf, pushedDue}
 use Rattle.reader.specs.declared.Children.{Children}
 use Rattle.reader.proofs.Via.{at as state}
 use Rattle.reader.proofs.Same.{Known, Same, read, refuse, same}
@@ -31,12 +33,31 @@ pub record Sim (text : Bytes) (m : Machine) (a : State) : Type 0 where
   pub start : m .progress .at ≡ startOf text (m .progress .rows)
   pub held : Held text (a .rows) (a .agenda) (stack (m .work) (m .progress .top))
 
--- ---- what follows: nothing is due; or the machine's turn leads to the next state; or it ends, with the refusal
+-- ---- what follows: nothing is due; or the machine's turn leads to the next state, or to the one after that, where a row is closed that
+-- has nothing below it; or it ends, with the refusal
 pub data Follows (text : Bytes) (m : Machine) : Phase → Type 0 where
   idle : {a : State} → m .progress .top ≡ 0 → Sim text m a → Follows text m (on a)
   goes : {a : State} → 0 < m .progress .top → Sim text (turnOf text m) a → Follows text m (on a)
+  skips : {a b : State} → 0 < m .progress .top → (a .agenda ≡ [] → ⊥) → turn a ≡ on b → Sim text (turnOf text m) b → Follows text m (on a)
   ends : {k n : ℕ} → 0 < m .progress .top → (k ≡ 0 → ⊥) → turnOf text m .progress .top ≡ 0 → turnOf text m .progress .refusal ≡ k
       → turnOf text m .progress .rows + 2 ≡ n → Follows text m (stopped k n)
+
+-- ---- a line with nothing due below it
+due-none : (s n d : ℕ) (more : List Entry) → n ≡ 0 → due s n d more ≡ more
+due-none s n d more e = ap (λ (n : ℕ). due s n d more) e
+
+leaf-none : (c : Children) (d : ℕ) (more : List Entry) → isLeaf c ≡ true → dueBelow c d more ≡ more
+unfolding isLeaf
+leaf-none c d more b =
+    let z : c .exprs + (c .stmts + (c .elifs + (c .others + (c .methods + c .attrs)))) ≡ 0 = eqb-true _ 0 b in
+    due-none 6 (c .exprs) d _ (omega arith)
+    ∙ (due-none 5 (c .stmts) d _ (omega arith)
+    ∙ (due-none 2 (c .elifs) d _ (omega arith)
+    ∙ (due-none 5 (c .others) d _ (omega arith) ∙ (due-none 3 (c .methods) d _ (omega arith) ∙ due-none 4 (c .attrs) d more (omega arith)))))
+
+close-last : (rows : List Row) (l : Line) → closeAt (length rows) (rows ++ (row l 0 ∷ [])) ≡ rows ++ (row l 0 ∷ [])
+close-last [] l = refl
+close-last (x ∷ rows) l = ap (λ (z : List Row). x ∷ z) (close-last rows l)
 
 -- a line that is read has a level left
 levels-left : (s d : ℕ) (r : Rest) {x : Due Form} {q : Rest} → lineDue s d r ≡ got x q → (0 < d) × (pred d ≡ d - 1)
@@ -113,7 +134,7 @@ module _ (text : Bytes) (short : length text ≤ 65_536) (w : List ℕ) (at top 
       written = stack (rowWritten text (length rows) at (numbersOf p next) w) top
 
       abbrev after : Stack
-      after = pushedBelow (length rows) kids (d - 1) (lessened e written)
+      after = pushedDue (length rows) kids (d - 1) (lessened e written)
 
       read-turns : turnOf text now ≡ machine (after .work) (progressTo next (length rows + 1) (after .top) 0)
       unfolding dueAt
@@ -127,34 +148,60 @@ module _ (text : Bytes) (short : length text ≤ 65_536) (w : List ℕ) (at top 
       kids-few : Few kids
       kids-few = few-by (countAt 0 p) (countAt 1 p) (countAt 2 p) (known .counts 0) (known .counts 1) (known .counts 2) (p .line .word) (known .kind)
 
-      read-held : 0 < d → Held text more (dueBelow (childrenIn p) (d - 1) (close (length rows) ∷ due s n d under)) after
-      read-held some =
-          let q = fits-due (fits-on (h .entries)) in
-          subst (λ c. Held text more (dueBelow c (d - 1) (close (length rows) ∷ due s n d under)) after) (known .children)
-          (below-held (length rows) kids (d - 1) kids-few (omega (arith, length-more rows (row (p .line) 0)))
-          (omega (arith, due-low s n d (length under) under (omega arith), q .short))
-          (lessened-held s n d (row-held short (omega arith) at p next start known h)))
+      -- the row is written, and the line is off the agenda
+      less-held : Held text more (due s n d under) (lessened e written)
+      less-held = lessened-held s n d (row-held short (omega arith) at p next start known h)
 
       abbrev then : ℕ → State
       then k = state (dueBelow (childrenIn p) k (close (length rows) ∷ due s n d under)) (restAt text next (suc (length rows + 2))) more
 
-      read-sim : 0 < d → Sim text (turnOf text now) (then (d - 1))
-      read-sim some =
-          subst (λ m. Sim text m (then (d - 1))) (sym read-turns)
+      read-sim : (agenda : List Entry) → Held text more agenda after
+          → Sim text (turnOf text now) (state agenda (restAt text next (suc (length rows + 2))) more)
+      read-sim agenda held =
+          subst (λ m. Sim text m (state agenda (restAt text next (suc (length rows + 2))) more)) (sym read-turns)
           (record {
             fine = refl;
             rows = omega (arith, length-more rows (row (p .line) 0));
             rest = ap (λ k. restAt text next k) (omega arith);
             start = sym (known .start) ∙ (sym (skip-next (suc (length rows)) text at start) ∙ ap (λ k. startOf text k) (sym (add-one (length rows))));
-            held = read-held some;
+            held = held;
           })
+
+      -- lines are due below it
+      read-on : 0 < d → isLeaf kids ≡ false → Follows text now (on (then (d - 1)))
+      unfolding pushedDue
+      read-on some b =
+          let q = fits-due (fits-on (h .entries)) in
+          goes (omega (arith, h .top)) (read-sim _
+          (subst (λ c. Held text more (dueBelow c (d - 1) (close (length rows) ∷ due s n d under)) after) (known .children)
+          (rw b (below-held (length rows) kids (d - 1) kids-few (omega (arith, length-more rows (row (p .line) 0)))
+          (omega (arith, due-low s n d (length under) under (omega arith), q .short)) less-held))))
+
+      -- nothing is due below it
+      read-leaf : isLeaf kids ≡ true → Follows text now (on (then (d - 1)))
+      unfolding pushedDue
+      read-leaf b =
+          let none : dueBelow (childrenIn p) (d - 1) (close (length rows) ∷ due s n d under) ≡ close (length rows) ∷ due s n d under =
+          subst (λ c. dueBelow c (d - 1) (close (length rows) ∷ due s n d under) ≡ close (length rows) ∷ due s n d under) (known .children)
+          (leaf-none kids (d - 1) (close (length rows) ∷ due s n d under) b) in
+          let closed : turn (then (d - 1)) ≡ on (state (due s n d under) (restAt text next (suc (length rows + 2))) more) =
+          ap (λ z. turned z (restAt text next (suc (length rows + 2))) more) none
+          ∙ ap (λ z. on (state (due s n d under) (restAt text next (suc (length rows + 2))) z)) (close-last rows (p .line)) in
+          skips (omega (arith, h .top)) (λ z. omega (arith, ap length (sym none ∙ z))) closed (read-sim _ (rw b less-held))
+
+      read-follows : 0 < d → Follows text now (on (then (d - 1)))
+      read-follows some = go (isLeaf kids) refl
+        where
+          go : (b : Bool) → isLeaf kids ≡ b → Follows text now (on (then (d - 1)))
+          go true b = read-leaf b
+          go false b = read-on some b
 
       turn-read : lineDue s d (restAt text at (length rows + 2)) ≡ got (record { is = f; parsed = p }) (restAt text next (suc (length rows + 2)))
           → Turns-to (run s (suc n) d ∷ under)
       turn-read l =
           let left = levels-left s d (restAt text at (length rows + 2)) l in
           subst (λ y. Follows text now (opened y (pred d) (due s n d under) rows)) (sym l)
-          (subst (λ k. Follows text now (on (then k))) (sym (left .1)) (goes (omega (arith, h .top)) (read-sim (left .0))))
+          (subst (λ k. Follows text now (on (then k))) (sym (left .1)) (read-follows (left .0)))
 
     turn-run : Turns-to (run s (suc n) d ∷ under)
     turn-run = go (same text at s (length rows + 2) d)

@@ -13,11 +13,11 @@ use Rattle.names.specs.Chains.{cleared}
 use Rattle.names.proofs.Theorems.{cleared-names}
 use Rattle.reader.specs.Rows.{rowsT}
 use Rattle.reader.specs.Laid.{skip, Holds}
-use Rattle.reader.specs.Agenda.{State, Phase, on, stopped, Via, here, step, stop, first, Leads, after}
+use Rattle.reader.specs.Agenda.{State, Phase, on, stopped, turn, Via, here, step, stop, first, Leads, after}
 use Rattle.reader.specs.Machine.{Machine, stack, Turns, done, more, turnOf, firstMachine, restAt}
 use Rattle.reader.proofs.Agenda.{agenda-reads}
 use Rattle.reader.proofs.Held.{Held, bare, due-low, pushed-held}
-use Rattle.reader.proofs.Follows.{Sim, Follows, idle, goes, ends, turn-follows}
+use Rattle.reader.proofs.Follows.{Sim, Follows, idle, goes, skips, ends, turn-follows}
 
 -- ---- where the machine ends: with the rows of the tree in the work buffer, or with the refusal
 pub data Ends (text : Bytes) (x : Machine) : Read Tree → Type 0 where
@@ -40,29 +40,50 @@ abbrev Final : Phase → Type 0
 Final (on a) = a .agenda ≡ []
 Final (stopped k n) = Unit
 
+same-state : {a b : State} → on a ≡ on b → a ≡ b
+same-state e = cc
+
+never : {a : State} {k n : ℕ} → on a ≡ stopped k n → ⊥
+never e = let z : _≡_ {A = ℕ} 0 1 = cc in omega arith
+
 module _ (text : Bytes) (short : length text ≤ 65_536) where
   later : {m : Machine} {p : Phase} → 0 < m .progress .top → Ended text (turnOf text m) p → Ended text m p
   later l (ended-on x t s) = ended-on x (more l t) s
   later l (ended-out x t some r n) = ended-out x (more l t) some r n
 
-  stepped : {m : Machine} {a : State} {p : Phase} → Follows text m (on a) → ((x : Machine) → Sim text x a → Ended text x p) → Ended text m p
-  stepped {m} (idle e s) h = h m s
-  stepped {m} (goes l s) h = later l (h (turnOf text m) s)
-
   stopped-out : {m : Machine} {k n : ℕ} → Follows text m (stopped k n) → Ended text m (stopped k n)
   stopped-out {m} (ends l some t r n) = ended-out (turnOf text m) (more l (done t)) some r n
 
-  ended : {s : State} {p : Phase} → Final p → Via s p → (m : Machine) → Sim text m s → Ended text m p
-  ended none here m h = ended-on m (done (h .held .top ∙ ap length none)) h
-  ended none (step {s} e v) m h = stepped (subst (Follows text m) e (turn-follows text short m s h)) (λ x i. ended none v x i)
-  ended none (stop {s} e) m h = stopped-out (subst (Follows text m) e (turn-follows text short m s h))
+  -- from a state, and from the one after it
+  record Way (s : State) (p : Phase) : Type 0 where
+    from : (m : Machine) → Sim text m s → Ended text m p
+    past : (m : Machine) (b : State) → (s .agenda ≡ [] → ⊥) → turn s ≡ on b → Sim text m b → Ended text m p
+
+  stepped : {s : State} {p : Phase} (m : Machine) → Way s p → Follows text m (on s) → Ended text m p
+  stepped m w (idle e s) = w .from m s
+  stepped m w (goes l s) = later l (w .from (turnOf text m) s)
+  stepped m w (skips {b} l some q s) = later l (w .past (turnOf text m) b some q s)
+
+  ended : {s : State} {p : Phase} → Final p → Via s p → Way s p
+  ended none here = record { from = λ m h. ended-on m (done (h .held .top ∙ ap length none)) h; past = λ m b some q h. absurd (some none) }
+  ended none (step {s} {t} e v) =
+      let w = ended none v in
+      record {
+        from = λ m h. stepped m w (subst (Follows text m) e (turn-follows text short m s h));
+        past = λ m b some q h. w .from m (subst (Sim text m) (same-state (sym q ∙ e)) h);
+      }
+  ended none (stop {s} e) =
+      record {
+        from = λ m h. stopped-out (subst (Follows text m) e (turn-follows text short m s h));
+        past = λ m b some q h. absurd (never (sym q ∙ e));
+      }
 
   leads-read : {s : State} (m : Machine) → Sim text m s → (y : Read Tree) → Leads s y → Reads text m y
-  leads-read m h (got t r) v = go (ended refl v m h)
+  leads-read m h (got t r) v = go (ended refl v .from m h)
     where
       go : Ended text m (on (record { agenda = []; rest = r; rows = rowsT t })) → Reads text m (got t r)
       go (ended-on x turns s) = record { last = x; turns = turns; ends = tree t r (s .fine) (s .rest) (s .rows) (s .held .holds) }
-  leads-read m h (refused k n) v = go (ended tt v m h)
+  leads-read m h (refused k n) v = go (ended tt v .from m h)
     where
       go : Ended text m (stopped k n) → Reads text m (refused k n)
       go (ended-out x turns some r i) = record { last = x; turns = turns; ends = refusal k n some r i }

@@ -10,7 +10,7 @@ use Rattle.names.specs.Chains.{put, placed, added}
 use Rattle.reader.specs.declared.Children.{Children}
 use Rattle.reader.specs.declared.Due.{Due}
 use Rattle.reader.specs.declared.Progress.{Progress}
-use Rattle.reader.specs.Machine.{dueAt, childrenBy, Stack, stack, pushed, pushedClose, pushedBelow, lessened, rowWritten, rowClosed, Machine, machine, progressTo, onward, below, takenIf, taken, entryOf, turnBy, turnOf, Turns, done, more}
+use Rattle.reader.specs.Machine.{dueAt, childrenBy, Stack, stack, pushed, pushedClose, pushedBelow, pushedDue, lessened, rowWritten, rowClosed, Machine, machine, progressTo, onward, below, takenIf, taken, entryOf, turnBy, turnOf, Turns, done, more}
 use Rattle.reader.proofs.Laws.{holds, fails}
 
 -- ---- seven pushes, each on what the one before leaves
@@ -54,7 +54,7 @@ module _ (text : Bytes) (e : ℕ) (w : List ℕ) (s : Progress) (x : Due) (now :
       → a₂ ≡ x .line .count2
       → c ≡ childrenBy (x .line .kind) a₀ a₁ a₂
       → d ≡ e / 8 % 128 - 1
-      → stack w₃ t₃ ≡ pushedBelow (s .rows) c d (stack w₂ t₂)
+      → stack w₃ t₃ ≡ pushedDue (s .rows) c d (stack w₂ t₂)
       → machine w₃ (progressTo (x .line .next) (s .rows + 1) t₃ 0) ≡ taken text e (machine w s)
   unfolding taken
   take-goes h w₁ w₂ w₃ t₂ t₃ c a₀ a₁ a₂ d written taken′ e₀ e₁ e₂ children level pushes =

@@ -58,6 +58,13 @@ unfoldable pub pushedBelow : ℕ → Children → ℕ → Stack → Stack
 pushedBelow i c d x =
     pushed 6 (c .exprs) d (pushed 5 (c .stmts) d (pushed 2 (c .elifs) d (pushed 5 (c .others) d (pushed 3 (c .methods) d (pushed 4 (c .attrs) d (pushedClose i x))))))
 
+-- nothing is due below a line: it needs no closing
+unfoldable pub isLeaf : Children → Bool
+isLeaf c = eqb (c .exprs + (c .stmts + (c .elifs + (c .others + (c .methods + c .attrs))))) 0
+
+unfoldable pub pushedDue : ℕ → Children → ℕ → Stack → Stack
+pushedDue i c d x = cond (isLeaf c) x (pushedBelow i c d x)
+
 -- one of the lines of the entry e, which is on top, is taken
 unfoldable pub lessened : ℕ → Stack → Stack
 lessened e x = cond (leb (e / 1_024) 1) (stack (x .work) (x .top - 1)) (stack (put (x .work) (dueBase + x .top - 1) (e - 1_024)) (x .top))
@@ -85,7 +92,7 @@ onward s l x = machine (x .work) (progressTo (l .next) (s .rows + 1) (x .top) 0)
 
 abbrev pub below : Bytes → ℕ → ℕ → Line → Machine → Stack
 below text e d l m =
-    pushedBelow (m .progress .rows) (childrenBy (l .kind) (l .count0) (l .count1) (l .count2)) (d - 1)
+    pushedDue (m .progress .rows) (childrenBy (l .kind) (l .count0) (l .count1) (l .count2)) (d - 1)
     (lessened e (stack (rowWritten text (m .progress .rows) (m .progress .at) l (m .work)) (m .progress .top)))
 
 abbrev pub takenIf : Bytes → ℕ → ℕ → Due → Machine → Machine

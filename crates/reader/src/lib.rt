@@ -9,7 +9,7 @@ ghost use lib.ListN.{length};
 ghost use Rattle.text.specs.Reading.{reading, ended};
 ghost use Rattle.reader.specs.Agenda.{after};
 ghost use Rattle.reader.specs.Laid.{Answers, skip};
-ghost use Rattle.reader.specs.Machine.{refusalOf, dueAt, childrenBy, stack, pushed, pushedClose, pushedBelow, lessened, rowWritten, rowClosed, Machine, machine, taken, turnOf, Turns, answerAt, restAt, Bounded, left, Few};
+ghost use Rattle.reader.specs.Machine.{refusalOf, dueAt, childrenBy, stack, pushed, pushedClose, pushedBelow, isLeaf, pushedDue, lessened, rowWritten, rowClosed, Machine, machine, taken, turnOf, Turns, answerAt, restAt, Bounded, left, Few};
 
 // The most bytes of a text, the most lines after the first, the deepest line, the shortest work buffer, the most parameters.
 const LONGEST_TEXT: usize = 65536;
@@ -174,6 +174,25 @@ fn push_below(work: &mut [u32], top: usize, i: usize, c: Children, d: usize) -> 
     push(work, t, 6, c.exprs, d)
 }
 
+// Whether nothing is due below a line.
+fn is_leaf(c: Children) -> bool
+    requires { ⌜ Few c ⌝ }
+    ensures { λ r. ⌜ r ≡ isLeaf c ⌝ }
+{
+    c.exprs + (c.stmts + (c.elifs + (c.others + (c.methods + c.attrs)))) == 0
+}
+
+// Puts what is due below row i on the agenda, if anything is.
+fn push_due(work: &mut [u32], top: usize, i: usize, c: Children, d: usize) -> usize
+    requires { ⌜ (top < 1000000) × (i ≤ 4096) × (d < 128) × Few c ⌝ }
+    ensures { λ r. ⌜ (stack (now (work .exit)) r ≡ pushedDue i c d (stack (now (work .entry)) top)) × (r ≤ top + 7) ⌝ }
+{
+    if is_leaf(c) {
+        return top;
+    }
+    push_below(work, top, i, c, d)
+}
+
 // Writes row i: its kind, and its name or where its line starts.
 fn write_row(text: &[u8], work: &mut [u32], i: usize, at: usize, l: Line)
     requires { ⌜ (i ≤ 4096) × ((l .len ≡ 0 → ⊥) → l .name < 4294967296) ⌝ }
@@ -229,7 +248,7 @@ fn take(text: &[u8], work: &mut [u32], s: Progress, e: usize) -> Progress
     write_row(text, work, s.rows, s.at, l);
     let t = less(work, s.top, e);
     let c = children_of(l.kind, wide(l.count0), wide(l.count1), wide(l.count2));
-    let top = push_below(work, t, s.rows, c, minus(d, 1));
+    let top = push_due(work, t, s.rows, c, minus(d, 1));
     Progress {
         at: l.next,
         rows: s.rows + 1,

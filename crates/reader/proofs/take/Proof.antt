@@ -69,8 +69,8 @@ R c = c .before .before .before .before
 abbrev E : tie.After-write-row → tie.Else1
 E c = c .before .before .before
 
-push-below-requires : tie.Need-push-below-requires
-push-below-requires c κs =
+push-due-requires : tie.Need-push-due-requires
+push-due-requires c κs =
     let k = K c in
     let l = L k in
     let e = E (R l) in
@@ -106,8 +106,8 @@ returns-2 c =
           (k .before .wide3 .ensures .0)
           (k .children-of .ensures)
           (m .minus .ensures)
-          (p .push-below .ensures .0),
-      on-bounded _ _ (s .pre .0) (s .pre .1) _ _ (known e) (omega (arith, p .push-below .ensures .1, l .less .ensures .1)),
+          (p .push-due .ensures .0),
+      on-bounded _ _ (s .pre .0) (s .pre .1) _ _ (known e) (omega (arith, p .push-due .ensures .1, l .less .ensures .1)),
     )
 
 pub take-spec : {M : Type 1} → statement M
@@ -124,7 +124,7 @@ take-spec =
     wide-requires-3
     children-of-requires
     minus-requires
-    push-below-requires
+    push-due-requires
     add-t19
     same-length
     returns-2)
