@@ -150,11 +150,11 @@ fn hash(name: &str) -> usize {
     name.bytes().fold(0, |h, b| (h * 1597 + b as usize) % 4096)
 }
 
-fn colliding(count: usize) -> Vec<u8> {
+fn colliding(count: usize, prefix: &str) -> Vec<u8> {
     let mut found = Vec::new();
     let mut i: usize = 0;
     while found.len() < count {
-        let mut name = String::from("c");
+        let mut name = String::from(prefix);
         let mut k = i;
         for _ in 0..5 {
             name.push(char::from(b'a' + (k % 26) as u8));
@@ -177,7 +177,8 @@ fn main() {
     compare("4,096 different names", &names(4096, |i| format!("n{i}")), 300);
     compare("4,096 names, a shared prefix", &names(4096, |i| format!("abc_{i}")), 300);
     compare("4,096 equal names", &names(4096, |_| "needle".into()), 300);
-    compare("4,096 names of one hash", &colliding(4096), 3);
+    compare("4,096 names of one hash", &colliding(4096, "c"), 3);
+    compare("920 names of 63 bytes, one hash", &colliding(920, &"c".repeat(58)), 3);
     let deep = format!("tree\t0\t1\nexpr\t0\t1\n{}lit\t0\t1\n", "un\t0\t1\n".repeat(62));
     let mut work = vec![0; 16384];
     println!(
