@@ -11,6 +11,7 @@ definition with the reader.  Python 3, standard library only.
 """
 
 import random
+import string
 import sys
 from pathlib import Path
 
@@ -165,7 +166,11 @@ def made():
         all_.take(text)
         all_.whole()
         all_.damage()
-    # names: many, shared prefixes, equal ones far apart
+    # names: all of two characters, many, shared prefixes, equal ones far apart
+    first = string.ascii_letters + '_'
+    pairs = [a + b for a in first for b in first + string.digits]
+    all_.take(document01.lines_of('tree|%d|0' % len(pairs), *('global|' + name for name in pairs)))
+    all_.whole()
     rng = random.Random(3)
     for pool in (['n%d' % i for i in range(400)], ['a' * i for i in range(1, 64)],
                  ['p' * 50 + str(i) for i in range(90)]):

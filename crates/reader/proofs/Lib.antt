@@ -1,5 +1,6 @@
--- The proofs about the reader. Agenda has the theorem about the agenda: turns lead to where the definition of reading leads. Machine has
+-- The proofs about the reader. Theorems has what follows from its contract. Agenda has the theorem about the agenda: turns lead to where the definition of reading leads. Machine has
 -- the theorem about the machine, whose agenda is in the work buffer: it ends where the definition ends.
+pub mod Theorems
 pub mod Agenda
 pub mod Machine
 pub mod Lengths

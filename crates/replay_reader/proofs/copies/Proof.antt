@@ -1,3 +1,4 @@
+-- Copies after copies; the length of where they go stays.
 use native.Mathlib.Omega.{arith}
 use Prim.Native.Nat.{_≤_, _-_}
 use mathlib.Core.Path.{_≡_}

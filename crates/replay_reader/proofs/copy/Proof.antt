@@ -1,3 +1,4 @@
+-- The bytes copied go up to the end of what is copied, or of where they go; the length of the latter stays.
 use borrow.Author.Needs.{needs}
 use native.Mathlib.Omega.{arith}
 use Prim.Native.Nat.{_≤_, _-_}

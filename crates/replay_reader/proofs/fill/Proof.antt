@@ -1,3 +1,4 @@
+-- One number after the other is written; the length stays.
 use borrow.Author.Needs.{needs}
 use native.Mathlib.Omega.{arith}
 use Prim.Native.Nat.{_≤_, _-_}

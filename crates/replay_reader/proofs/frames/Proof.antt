@@ -1,3 +1,4 @@
+-- Frame after frame: each one stands later than the one before. The two buffers keep their lengths.
 use borrow.Author.Needs.{needs}
 use native.Mathlib.Omega.{arith}
 use Prim.Native.Nat.{_-_}

@@ -1,3 +1,4 @@
+-- Row after row, 4,096 at most.
 use borrow.Author.Needs.{needs}
 use Prim.Native.Nat.{_≤_, _-_}
 use Rattle.replay_reader.proofs.show.Statement.{statement}

@@ -1,3 +1,4 @@
+-- Row after row, 4,096 at most; the sum stays below 2^32.
 use native.Mathlib.Omega.{arith}
 use Prim.Native.Nat.{_≤_, _<_, _-_}
 use Rattle.replay_reader.proofs.sum_of.Statement.{statement}
