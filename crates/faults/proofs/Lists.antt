@@ -6,9 +6,9 @@ use mathlib.Core.Bool.{Bool, true, false, cond, _&&_, _||_, or-assoc, or-true}
 use mathlib.Core.List.{List, [], _∷_, _++_}
 use lib.Dec.{eqb}
 use lib.ListN.{length}
-use borrow.Author.Tests.{eqb-true, eqb-false, eq-eqb, ne-eqb}
+use borrow.Author.Tests.{eq-eqb}
 use Rattle.text.specs.Bytes.{Bytes, Part, same, mem, any, all}
-pub use Rattle.text.proofs.Lists.{and-split, same-eq, All, all-nil as none, all-cons as also}
+pub use Rattle.text.proofs.Lists.{and-split, eqb-sym, same-eq, All, all-nil as none, all-cons as also}
 use Rattle.faults.specs.Position.{Visited}
 use Rattle.faults.specs.Faults.{Binding, Fault, faultOf, judge, keep}
 
@@ -17,13 +17,6 @@ pub eqb-same : (k : ℕ) → eqb k k ≡ true
 eqb-same k = eq-eqb k k refl
 
 -- ---- names
-pub eqb-sym : (m n : ℕ) → eqb m n ≡ eqb n m
-eqb-sym m n = go (eqb m n) refl
-  where
-    go : (b : Bool) → eqb m n ≡ b → b ≡ eqb n m
-    go true e = sym (eq-eqb n m (sym (eqb-true m n e)))
-    go false e = sym (ne-eqb n m (λ q. eqb-false m n e (sym q)))
-
 pub same-sym : (x y : Bytes) → same x y ≡ same y x
 same-sym [] [] = refl
 same-sym [] (b ∷ y) = refl

@@ -11,7 +11,7 @@ use lib.ListN.{length, getD, drop, length-drop}
 use borrow.Author.Tests.{eqb-true, eq-eqb, ltb-true}
 use Rattle.text.specs.Bytes.{Bytes, same, all}
 use Rattle.text.specs.Lines.{Word, words}
-use Rattle.text.proofs.Lists.{and-split, next-of, same-eq}
+use Rattle.text.proofs.Lists.{and-split, next-of, at-next, same-eq}
 use Rattle.cursor.specs.Fields.{fieldAt, refused, past, takes}
 use Rattle.cursor.specs.declared.Cursor.{Cursor}
 use Rattle.cursor.proofs.Fields.{field-first}
@@ -19,7 +19,7 @@ use Rattle.line.specs.Steps.{place, isWord, noWord, noKind, kindFrom, or
 use Rattle.line.specs.declared.Kind.{Kind}
 use Rattle.line.proofs.Keys.{among, Unlike, unlike}
 use Rattle.line.proofs.Rows.{takes-facts}
-use Rattle.line.proofs.Words.{wordAt, row-here, some-bytes}
+use Rattle.line.proofs.Words.{wordAt, some-bytes}
 
 -- ---- a field that has the bytes of a word
 abbrev pub spelt : ℕ → Bytes
@@ -96,7 +96,7 @@ place-same n (w ∷ ws) table x e h = go (same x (w .spelling)) refl h (place-sa
     go : (t : Bool) → same x (w .spelling) ≡ t → elim t [ true ↦ n | false ↦ place (suc n) ws x ] < length table
         → (place (suc n) ws x < length table → same x (getD table (place (suc n) ws x) noWord .spelling) ≡ true)
         → same x (getD table (elim t [ true ↦ n | false ↦ place (suc n) ws x ]) noWord .spelling) ≡ true
-    go true q h r = ap (λ (v : Word). same x (v .spelling)) (row-here n w ws table e) ∙ q
+    go true q h r = ap (λ (v : Word). same x (v .spelling)) (at-next table n w ws noWord e) ∙ q
     go false q h r = r h
 
 begun-at : (i n : ℕ) (ws : List Word) (ns : List ℕ) (b : ℕ) → begun n ws ns b ≡ true → i < length ws → getD (getD ws i noWord .spelling) 0 0 ≡ b

@@ -1,19 +1,17 @@
 -- Words by their place: the table's line of a word is that of the row at the word's place, and there is none past the end (`line-placed`).
 -- No row has more than three counts (`few-counts`), and none an empty word (`some-bytes`).
-use mathlib.Core.Path.{_≡_, refl, sym, ap, _∙_}
+use mathlib.Core.Path.{_≡_, refl, ap}
 use mathlib.Core.Bool.{Bool, true, false, cond}
 use mathlib.Core.List.{List, [], _∷_}
 use mathlib.Core.Option.{Option, none, some}
 use Prim.Native.Nat.{ℕ, suc, _<_, _≤_}
-use native.Mathlib.Nat.{add-zero}
 use native.Mathlib.Omega.{arith}
 use lib.Dec.{leb, ltb}
 use lib.ListN.{length, getD, drop, getElem?, length-drop}
-use lib.Seq.{getD-drop}
 use borrow.Author.Tests.{lt-ltb, le-ltb, leb-true, ltb-true}
 use Rattle.text.specs.Bytes.{Bytes, Part, same}
 use Rattle.text.specs.Lines.{Word, words, Parsed, wellFormed, parsed, lineOf}
-use Rattle.text.proofs.Lists.{next-of, test-at}
+use Rattle.text.proofs.Lists.{next-of, at-next, test-at}
 use Rattle.line.specs.Steps.{place, isWord, noWord}
 
 -- the word in row k
@@ -23,9 +21,6 @@ wordAt k = getD words k noWord
 -- the line of row k
 abbrev pub rowLine : ℕ → Word → List Part → Option Parsed
 rowLine k w fs = elim (wellFormed w fs) [ true ↦ some (parsed k w fs) | false ↦ none ]
-
-pub row-here : (n : ℕ) (w : Word) (ws all : List Word) → drop n all ≡ w ∷ ws → getD all n noWord ≡ w
-row-here n w ws all e = ap (λ i. getD all i noWord) (sym (add-zero n)) ∙ (sym (getD-drop n all 0 noWord) ∙ ap (λ l. getD l 0 noWord) e)
 
 placed : (n : ℕ) (ws all : List Word) (x : Bytes) (fs : List Part) → drop n all ≡ ws
     → lineOf n ws x fs ≡ (let k = place n ws x in cond (ltb k (length all)) (rowLine k (getD all k noWord) fs) none)
@@ -38,7 +33,7 @@ placed n (w ∷ ws) all x fs e = go (same x (w .spelling)) (placed (suc n) ws al
     go : (t : Bool) → lineOf (suc n) ws x fs ≡ (let k = place (suc n) ws x in cond (ltb k (length all)) (rowLine k (getD all k noWord) fs) none)
         → elim t [ true ↦ rowLine n w fs | false ↦ lineOf (suc n) ws x fs ]
         ≡ (let k : ℕ = elim t [ true ↦ n | false ↦ place (suc n) ws x ] in cond (ltb k (length all)) (rowLine k (getD all k noWord) fs) none)
-    go true r = rw (lt-ltb n (length all) (k .2), row-here n w ws all e)
+    go true r = rw (lt-ltb n (length all) (k .2), at-next all n w ws noWord e)
     go false r = r
 
 pub line-placed : (x : Bytes) (fs : List Part) → lineOf 0 words x fs ≡ (let k = place 0 words x in cond (isWord x) (rowLine k (wordAt k) fs) none)

@@ -14,9 +14,9 @@ use lib.ListN.{length, getD, length-set}
 use lib.Seq.{getD-set-same, getD-set-other}
 use Rattle.text.specs.Bytes.{Bytes}
 use Rattle.cursor.specs.Fields.{fieldAt, hashOf}
-use Rattle.rows.specs.Layout.{rowsMost, nameBase, headBase, dueBase, nameOf, offsetAt, sameAt}
+use Rattle.rows.specs.Layout.{put, rowsMost, nameBase, headBase, dueBase, nameOf, offsetAt, sameAt}
 use Rattle.names.specs.Names.{earliest}
-use Rattle.names.specs.Chains.{partOf, headAt, found, put, placed, entered, added, cleared, New, Link, Names}
+use Rattle.names.specs.Chains.{partOf, headAt, found, placed, entered, added, cleared, New, Link, Names}
 use Rattle.names.proofs.Earliest.{more, First, Absent, sought, earliest-first, earliest-absent, first-more, first-new, earliest-more, more-old, more-new, more-length}
 use Rattle.names.proofs.Writes.{eq-or-ne, marked, headed, entered-old, entered-new, cleared-length, cleared-head}
 use Rattle.names.proofs.Links.{hash-small, found-earliest, first-is-new, new-less, link-more, link-past, link-on}

@@ -10,8 +10,8 @@ use lib.ListN.{length, getD, set, length-set}
 use lib.Seq.{getD-set-same, getD-set-other}
 use borrow.Author.Tests.{eqb-true, eqb-false, lt-ltb, le-ltb}
 use Rattle.text.specs.Bytes.{Bytes}
-use Rattle.rows.specs.Layout.{rowsMost, nameBase, headBase, dueBase, nameOf, offsetAt}
-use Rattle.names.specs.Chains.{headAt, put, found, placed, entered, added, clearedFrom, cleared, partOf}
+use Rattle.rows.specs.Layout.{put, rowsMost, nameBase, headBase, dueBase, nameOf, offsetAt}
+use Rattle.names.specs.Chains.{headAt, found, placed, entered, added, clearedFrom, cleared, partOf}
 
 pub eq-or-ne : (a b : ℕ) → (a ≡ b) ⊎ (a ≡ b → ⊥)
 eq-or-ne a b = go (eqb a b) refl

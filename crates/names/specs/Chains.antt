@@ -4,10 +4,10 @@ use mathlib.Core.Bool.{true, false, cond, _&&_}
 use mathlib.Core.List.{List, []}
 use mathlib.Core.Path.{_≡_}
 use lib.Dec.{leb, ltb}
-use lib.ListN.{length, getD, take, drop, set}
+use lib.ListN.{length, getD, take, drop}
 use Rattle.text.specs.Bytes.{Bytes, same}
 use Rattle.cursor.specs.Fields.{fieldAt, hashOf}
-use Rattle.rows.specs.Layout.{rowsMost, nameBase, headBase, nameOf, offsetAt, sameAt}
+use Rattle.rows.specs.Layout.{put, rowsMost, nameBase, headBase, nameOf, offsetAt, sameAt}
 use Rattle.names.specs.Names.{Numbered}
 
 -- the part of the text from an offset on; none where it is not inside
@@ -35,9 +35,6 @@ abbrev pub lookup : Bytes → List ℕ → Bytes → ℕ
 lookup text w x = found text w (hashOf x) x
 
 -- ---- what is written: a row's second number, and its head if the name is new
-abbrev pub put : List ℕ → ℕ → ℕ → List ℕ
-put w i v = set w i (v % 4_294_967_296)
-
 abbrev pub placed : List ℕ → ℕ → ℕ → List ℕ
 placed w i at = put w (nameBase + i) at
 

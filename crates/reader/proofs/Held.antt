@@ -12,8 +12,7 @@ use lib.Seq.{getD-set-same, getD-set-other, take-set-le}
 use borrow.Author.Tests.{ne-eqb, le-leb, lt-leb}
 use Rattle.text.specs.Bytes.{Bytes}
 use Rattle.text.proofs.Lists.{All}
-use Rattle.rows.specs.Layout.{nameBase, dueBase}
-use Rattle.names.specs.Chains.{put}
+use Rattle.rows.specs.Layout.{put, nameBase, dueBase}
 use Rattle.names.proofs.Theorems.{other-names}
 use Rattle.reader.specs.Rows.{Row}
 use Rattle.reader.specs.Laid.{Holds, nameIn}

@@ -3,16 +3,15 @@
 use Prim.Native.Nat.{ℕ, zero, suc, _+_, _<_, _≤_}
 use native.Mathlib.Omega.{arith}
 use mathlib.Core.Path.{_≡_, refl, ap, subst}
-use mathlib.Core.Bool.{Bool, true, false, cond, not}
+use mathlib.Core.Bool.{Bool, true, false, cond}
 use mathlib.Core.List.{List, [], _∷_, map}
 use mathlib.Core.Option.{Option, none, some}
-use lib.Dec.{eqb, leb, ltb}
+use lib.Dec.{eqb, leb}
 use lib.ListN.{length, take, drop, getD}
-use lib.Seq.{drop-cons}
-use borrow.Author.Tests.{leb-true}
-use Rattle.text.specs.Bytes.{Bytes, Part, noPart, all, isName, isNumber, isDigit, leadingZero, valueOf, largestSpan, largestCount, same}
+use Rattle.text.specs.Bytes.{Bytes, Part, noPart, all, isName, isNumber, valueOf, largestSpan, largestCount, same}
 use Rattle.text.specs.Lines.{Word, words, Parsed, wellFormed, parsed, lineOf, parse, countAt}
-use Rattle.text.proofs.Lists.{and-split, All, all-nil, all-cons, next-of}
+use Rattle.text.proofs.Lists.{and-split, All, all-nil, all-cons, next-of, at-next}
+use Rattle.text.proofs.Parts.{number-small}
 
 -- a line, where P holds of each of its fields
 pub record ParsedFacts (P : Part → Type 0) (p : Parsed) : Type 0 where
@@ -25,10 +24,6 @@ abbrev Facts : (Part → Type 0) → Option Parsed → Type 0
 Facts P none = Unit
 Facts P (some p) = ParsedFacts P p
 
--- ---- the row
-row-at : (l : List Word) (n : ℕ) (w : Word) (ws : List Word) (d : Word) → drop n l ≡ w ∷ ws → getD l n d ≡ w
-row-at l n w ws d e = cc (drop-cons l n d (next-of l n w ws e .2))
-
 -- ---- the counts
 abbrev isCount : Part → Bool
 isCount f = isNumber largestCount (f .bytes)
@@ -36,13 +31,9 @@ isCount f = isNumber largestCount (f .bytes)
 abbrev value : Part → ℕ
 value f = valueOf (f .bytes)
 
-count-small : (f : Part) → isCount f ≡ true → value f ≤ largestCount
-count-small f e =
-    leb-true _ _ (and-split (not (leadingZero (f .bytes))) _ (and-split (all isDigit (f .bytes)) _ (and-split (ltb 0 (length (f .bytes))) _ e .1) .1) .1)
-
 counts-small : (fs : List Part) (i : ℕ) → all isCount fs ≡ true → getD (map value fs) i 0 ≤ largestCount
 counts-small [] i e = omega arith
-counts-small (f ∷ fs) zero e = count-small f (and-split (isCount f) (all isCount fs) e .0)
+counts-small (f ∷ fs) zero e = number-small largestCount (f .bytes) (and-split (isCount f) (all isCount fs) e .0)
 counts-small (f ∷ fs) (suc i) e = counts-small fs i (and-split (isCount f) (all isCount fs) e .1)
 
 module _ {P : Part → Type 0} where
@@ -69,7 +60,7 @@ module _ {P : Part → Type 0} where
         let d = and-split (all isCount (take (w .counts) (drop (s + m) fs))) _ (c .1) in
         record {
           kind = next-of words n w ws e .2;
-          form = λ v. ap (λ (x : Word). x .form) (row-at words n w ws v e);
+          form = λ v. ap (λ (x : Word). x .form) (at-next words n w ws v e);
           counts = λ i. counts-small (take (w .counts) (drop (s + m) fs)) i (d .0);
           name = name-at each (w .named) s;
         }

@@ -8,10 +8,11 @@ use mathlib.Core.List.{[], _∷_}
 use mathlib.Core.Option.{Option, none, some}
 use lib.Dec.{eqb, leb, ltb, eqb·suc-zero}
 use lib.ListN.{length, drop, length-drop}
-use borrow.Author.Tests.{eqb-true, eqb-false, eq-eqb, ne-eqb, leb-true, leb-false, le-leb, lt-leb, le-ltb, lt-ltb}
+use borrow.Author.Tests.{leb-true, leb-false, le-leb, lt-leb, le-ltb, lt-ltb}
 use Rattle.text.specs.Bytes.{Bytes}
 use Rattle.text.specs.Lines.{Form, Cut, cut, Parsed, parse, countAt, sortOf}
 use Rattle.text.specs.Reading.{Rest, Read, got, refused, Due, line, formed, tooDeep}
+use Rattle.text.proofs.Lists.{eqb-sym}
 use Rattle.text.proofs.Parts.{cut-in}
 use Rattle.cursor.specs.Fields.{fieldAt}
 use Rattle.line.specs.Line.{lineAt, cutLine, numbersOf, noLine}
@@ -41,13 +42,6 @@ pub data Same (text : Bytes) (at s n d : ℕ) : Type 0 where
   refuse : (k : ℕ) → (k ≡ 0 → ⊥) → dueAt text at s n d .refusal ≡ k → lineDue s d (restAt text at n) ≡ refused k n → Same text at s n d
 
 -- ---- the code's tests, in the definition's words
-eqb-sym : (a b : ℕ) → eqb a b ≡ eqb b a
-eqb-sym a b = go (eqb b a) refl
-  where
-    go : (t : Bool) → eqb b a ≡ t → eqb a b ≡ t
-    go true e = eq-eqb a b (sym (eqb-true b a e))
-    go false e = ne-eqb a b (λ h. eqb-false b a e (sym h))
-
 ltb-not : (a b : ℕ) → ltb a b ≡ not (leb b a)
 ltb-not a b = go (leb b a) refl
   where

@@ -6,7 +6,8 @@ use mathlib.Core.List.{List}
 use borrow.Author.Tests.{eq-eqb, ne-eqb}
 use Rattle.text.specs.Bytes.{Bytes}
 use Rattle.line.specs.declared.Line.{Line}
-use Rattle.names.specs.Chains.{put, placed, added}
+use Rattle.rows.specs.Layout.{put}
+use Rattle.names.specs.Chains.{placed, added}
 use Rattle.reader.specs.declared.Children.{Children}
 use Rattle.reader.specs.declared.Due.{Due}
 use Rattle.reader.specs.declared.Progress.{Progress}

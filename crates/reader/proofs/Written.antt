@@ -15,9 +15,9 @@ use Rattle.text.specs.Tree.{Line}
 use Rattle.text.specs.Lines.{Parsed}
 use Rattle.text.proofs.Lists.{All, all-nil, all-cons}
 use Rattle.line.specs.Line.{numbersOf}
-use Rattle.rows.specs.Layout.{rowsMost, nameBase, dueBase, offsetAt, kindAt}
+use Rattle.rows.specs.Layout.{put, rowsMost, nameBase, dueBase, offsetAt, kindAt}
 use Rattle.cursor.specs.Fields.{fieldAt, hashOf}
-use Rattle.names.specs.Chains.{Names, partOf, put, placed, added}
+use Rattle.names.specs.Chains.{Names, partOf, placed, added}
 use Rattle.names.proofs.Theorems.{Outside, other-names, placed-names, placed-length, placed-offset, placed-rows, placed-outside}
 use Rattle.names.proofs.Theorems.{added-names, added-length, added-offset, added-rows, added-outside}
 use Rattle.reader.specs.Rows.{Row, row}

@@ -1,17 +1,18 @@
 -- The reader as it runs: the agenda is a stack in the work buffer. What each function does to the numbers, in the code's own steps.
 use Prim.Native.Nat.{ℕ, _+_, _-_, _*_, _/_, _%_, _≤_, _<_}
-use mathlib.Core.Bool.{Bool, false, cond, not}
-use mathlib.Core.List.{List, []}
+use mathlib.Core.Bool.{Bool, cond, not}
+use mathlib.Core.List.{List}
 use mathlib.Core.Path.{_≡_}
 use lib.Dec.{eqb, leb, ltb}
 use lib.ListN.{length, getD, drop}
 use Rattle.text.specs.Bytes.{Bytes}
-use Rattle.text.specs.Lines.{Word, words, Form}
+use Rattle.text.specs.Lines.{words}
 use Rattle.text.specs.Reading.{Rest, mostLines, mostParams, deepest}
 use Rattle.line.specs.Line.{lineAt}
+use Rattle.line.specs.Steps.{noWord}
 use Rattle.line.specs.declared.Line.{Line}
-use Rattle.rows.specs.Layout.{dueBase, kindAt}
-use Rattle.names.specs.Chains.{put, placed, added, cleared}
+use Rattle.rows.specs.Layout.{put, dueBase, kindAt}
+use Rattle.names.specs.Chains.{placed, added, cleared}
 use Rattle.reader.specs.Agenda.{childrenOf}
 use Rattle.reader.specs.declared.Children.{Children}
 use Rattle.reader.specs.declared.Due.{Due}
@@ -28,9 +29,6 @@ unfoldable pub dueAt : Bytes → ℕ → ℕ → ℕ → ℕ → Due
 dueAt text at sort n d = record { refusal = refusalOf (leb (length text) at) (lineAt text at) sort n d; line = lineAt text at }
 
 -- ---- the lines due below a line, by its kind and its counts
-abbrev pub noWord : Word
-noWord = record { spelling = []; spanned = false; named = false; counts = 0; params = false; form = Form.tree }
-
 unfoldable pub childrenBy : ℕ → ℕ → ℕ → ℕ → Children
 childrenBy kind a b c = childrenOf (getD words kind noWord .form) a b c
 

@@ -52,12 +52,7 @@ pub struct Due {
     pub line: Line,
 }
 
-fn wide(x: u32) -> usize
-    ensures { λ r. ⌜ (r ≡ x) × (r < 4294967296) ⌝ }
-{
-    x as usize
-}
-
+// What is left of a without b; 0 where b is more.
 fn minus(a: usize, b: usize) -> usize
     ensures { λ r. ⌜ r ≡ a - b ⌝ }
 {
@@ -247,7 +242,12 @@ fn take(text: &[u8], work: &mut [u32], s: Progress, e: usize) -> Progress
     let l = x.line;
     write_row(text, work, s.rows, s.at, l);
     let t = less(work, s.top, e);
-    let c = children_of(l.kind, wide(l.count0), wide(l.count1), wide(l.count2));
+    let c = children_of(
+        l.kind,
+        rows::wide(l.count0),
+        rows::wide(l.count1),
+        rows::wide(l.count2),
+    );
     let top = push_due(work, t, s.rows, c, minus(d, 1));
     Progress {
         at: l.next,
@@ -354,5 +354,11 @@ pub fn read_tree(text: &[u8], work: &mut [u32]) -> Read
         };
     }
     let l = first.line;
-    rest(text, work, wide(l.count0), wide(l.count1), l.next)
+    rest(
+        text,
+        work,
+        rows::wide(l.count0),
+        rows::wide(l.count1),
+        l.next,
+    )
 }

@@ -7,7 +7,11 @@ use Prim.Native.Nat.{ℕ, _+_, _*_, _/_, _%_}
 use mathlib.Core.Bool.{cond}
 use mathlib.Core.List.{List}
 use lib.Dec.{ltb}
-use lib.ListN.{getD}
+use lib.ListN.{getD, set}
+
+-- a number of 32 bits is written
+abbrev pub put : List ℕ → ℕ → ℕ → List ℕ
+put w i v = set w i (v % 4_294_967_296)
 
 abbrev pub rowsMost : ℕ
 rowsMost = 4_096

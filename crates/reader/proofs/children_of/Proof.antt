@@ -8,7 +8,8 @@ use borrow.Author.Needs.{needs}
 use Rattle.text.specs.Lines.{Word, words}
 use Rattle.reader.specs.declared.Children.{Children}
 use Rattle.reader.specs.Agenda.{childrenOf}
-use Rattle.reader.specs.Machine.{childrenBy, noWord}
+use Rattle.line.specs.Steps.{noWord}
+use Rattle.reader.specs.Machine.{childrenBy}
 use Rattle.reader.proofs.Laws.{From, within}
 use Rattle.reader.proofs.children_of.Statement.{statement}
 use Rattle.reader.proofs.children_of.Tie as tie

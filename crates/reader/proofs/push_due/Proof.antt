@@ -1,6 +1,6 @@
 -- A leaf leaves the agenda as it is; below any other line something is pushed.
 use native.Mathlib.Omega.{arith}
-use mathlib.Core.Path.{_≡_, refl, sym, _∙_}
+use mathlib.Core.Path.{refl, sym, _∙_}
 use borrow.Author.Needs.{needs}
 use Rattle.reader.specs.Machine.{pushedDue}
 use Rattle.reader.proofs.Laws.{holds, fails}
