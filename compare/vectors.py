@@ -20,6 +20,7 @@ import document01
 WORDS = ('tree global break continue pass def assign if elif while for return expr '
          'class method attr lit var un bin index call get list tuple set treeset '
          'dict lambda').split()
+ROOM = 262144                           # bytes that the program reads
 CHANGED = b'\t\n09aZ_\x00\xff'       # what a byte is changed to
 
 
@@ -119,6 +120,21 @@ def every_word():
         'pass|160|164', 'attr|limit', 'lit|180|183')
 
 
+def edges():
+    """A line of each word, each of its numbers at and past its limit."""
+    seen = set()
+    for line in every_word().decode('ascii').splitlines():
+        fields = line.split('\t')
+        if fields[0] in seen:
+            continue
+        seen.add(fields[0])
+        shape = document01.SHAPES[fields[0]][1]
+        for place, letter in enumerate(shape, 1):
+            for value in {'S': (4294967295, 4294967296), 'C': (4096, 4097)}.get(letter, ()):
+                changed = '\t'.join(fields[:place] + [str(value)] + fields[place + 1:]) + '\n'
+                yield (changed if fields[0] == 'tree' else 'tree\t0\t1\n' + changed).encode('ascii')
+
+
 def longest(extra):
     """Frames for a tree text of 65,536 bytes and some more."""
     found = Frames()
@@ -159,6 +175,10 @@ def made():
         all_.repeat(names, b'global\tx\n')
         all_.repeat(lines, b'pass\t0\t4\n')
         all_.whole()
+    # numbers at and past their limits
+    for text in edges():
+        all_.take(text)
+        all_.whole()
     # damaged copies
     for text in (every_word(), document01.lines_of(
             'tree|0|1', 'def|4294967295|4294967295|f|1|' + '|'.join('ab%d' % i for i in range(16)),
@@ -187,7 +207,9 @@ def made():
         for _ in range(6):
             all_.take(document01.damaged(rng, text))
             all_.whole()
-    return b''.join(all_.frames), b''.join(all_.answers), len(all_.answers)
+    frames = b''.join(all_.frames)
+    assert len(frames) <= ROOM
+    return frames, b''.join(all_.answers), len(all_.answers)
 
 
 def main(arguments):
