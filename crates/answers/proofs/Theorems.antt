@@ -26,7 +26,7 @@ pub record Agree (text : Bytes) (work : ℕ) (ns : List ℕ) (k : ℕ) : Type 0 
   pub checked : check text work ≡ firstOf ns
   pub counted : length ns ≡ recordLength * k
 
-records-length : (fs : List Fault) → length (records fs) ≡ recordLength * length fs
+pub records-length : (fs : List Fault) → length (records fs) ≡ recordLength * length fs
 records-length [] = refl
 records-length (f ∷ fs) = let h : length (records fs) ≡ 7 * length fs = records-length fs in omega arith
 

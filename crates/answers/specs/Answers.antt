@@ -56,7 +56,7 @@ faultAt [] i = none
 faultAt (f ∷ fs) zero = some f
 faultAt (f ∷ fs) (suc i) = faultAt fs i
 
-abbrev wroteIf : ℕ → Bytes → MessageAnswer
+abbrev pub wroteIf : ℕ → Bytes → MessageAnswer
 wroteIf out m = elim (ltb out (length m)) [ true ↦ tooLong | false ↦ wrote m ]
 
 abbrev pub messageOr : ℕ → Option Fault → MessageAnswer

@@ -10,7 +10,7 @@ use Rattle.faults.specs.Faults.{Fault, faults, messageOf}
 use Rattle.answers.specs.Answers.{ReportAnswer, written, refused, reported}
 
 -- a number in decimal: at most so many digits
-abbrev digits : ℕ → ℕ → Bytes
+abbrev pub digits : ℕ → ℕ → Bytes
 digits zero n = []
 digits (suc k) n = elim (ltb n 10) [ true ↦ (48 + n) ∷ [] | false ↦ digits k (n / 10) ++ ((48 + n % 10) ∷ []) ]
 
@@ -19,7 +19,7 @@ abbrev pub decimalOf : ℕ → Bytes
 decimalOf n = digits 10 n
 
 -- fields with a tab before each, and LF
-abbrev tabbed : List Bytes → Bytes
+abbrev pub tabbed : List Bytes → Bytes
 tabbed [] = 10 ∷ []
 tabbed (f ∷ fs) = 9 ∷ (f ++ tabbed fs)
 

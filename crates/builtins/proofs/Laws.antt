@@ -43,7 +43,7 @@ total-turn ns k h = rw (add-one k, drop-cons ns k 0)
 
 -- the first of them is the part of the bytes from at to at + its length
 module _ (ns bs : List ℕ) (at k : ℕ) (h : k < length ns) where
-  cut-turn : cutBy (drop k ns) (drop at bs) ≡ take (at + getD ns k 0 - at) (drop at bs) ∷ cutBy (drop (k + 1) ns) (drop (at + getD ns k 0) bs)
+  pub cut-turn : cutBy (drop k ns) (drop at bs) ≡ take (at + getD ns k 0 - at) (drop at bs) ∷ cutBy (drop (k + 1) ns) (drop (at + getD ns k 0) bs)
   cut-turn = rw (add-one k, drop-cons ns k 0, drop-drop, add-sub-cancel-left)
 
   module _ (x : Bytes) where

@@ -10,10 +10,10 @@ ghost use Rattle.builtins.specs.Table.{place, numberOf, cutBy, total, Ru
 const COUNT: usize = 13;
 
 // The names, one after the other: print, input, int, bool, str, len, range, float, assert, map, filter, set, treeset.
-const BYTES: [u8; 58] = *b"printinputintboolstrlenrangefloatassertmapfiltersettreeset";
+pub const BYTES: [u8; 58] = *b"printinputintboolstrlenrangefloatassertmapfiltersettreeset";
 
 // The length of each.
-const LENGTHS: [u8; COUNT] = [5, 5, 3, 4, 3, 3, 5, 5, 6, 3, 6, 3, 7];
+pub const LENGTHS: [u8; COUNT] = [5, 5, 3, 4, 3, 3, 5, 5, 6, 3, 6, 3, 7];
 
 // Whether a and b are the same, byte for byte.
 fn same_bytes(a: &[u8], b: &[u8]) -> bool

@@ -14,3 +14,4 @@ pub mod Order
 pub mod Stack
 pub mod Captured
 pub mod First
+pub mod Deduped

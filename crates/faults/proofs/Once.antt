@@ -84,10 +84,9 @@ once-from n t seen (next {a = f} {as′ = fs} h l) a =
     (capture (f .kind)) (mem (f .name .bytes) seen) (t f) refl refl refl refl
 
 -- ---- the faults of a tree
-by-place : (t : Fault → Bool) (fs : List Fault) → ((n : ℕ) → placed n (without t fs) ≡ once [] (placed n fs))
-    → (n m : ℕ) → byPlace n m (without t fs) ≡ byPlaceOnce n m fs
-by-place t fs h n zero = refl
-by-place t fs h n (suc m) = ap₂ _++_ (h n) (by-place t fs h (suc n) m)
+pub by-place : (gs fs : List Fault) → ((n : ℕ) → placed n gs ≡ once [] (placed n fs)) → (n m : ℕ) → byPlace n m gs ≡ byPlaceOnce n m fs
+by-place gs fs h n zero = refl
+by-place gs fs h n (suc m) = ap₂ _++_ (h n) (by-place gs fs h (suc n) m)
 
 repeated-any : (bs : List Binding) (vs : List Visited) (f : Fault) → repeated bs vs f ≡ (capture (f .kind) && any (λ (g : Fault). precedes g f) (judge bs vs))
 repeated-any bs vs f = go (capture (f .kind))
@@ -99,5 +98,5 @@ repeated-any bs vs f = go (capture (f .kind))
 pub faults-once : (t : Tree) → faults t ≡ byPlaceOnce (firstLine t) (lenSs (t .body)) (judge (bindings t) (visited t))
 faults-once t =
     let again : Fault → Bool = repeated (bindings t) (visited t) in
-    by-place again (judge (bindings t) (visited t))
+    by-place (without again (judge (bindings t) (visited t))) (judge (bindings t) (visited t))
     (λ n. once-from n again [] (faults-ascend t) (λ f e l. repeated-any (bindings t) (visited t) f)) (firstLine t) (lenSs (t .body))

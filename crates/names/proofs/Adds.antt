@@ -87,7 +87,7 @@ pub names-kept : {text : Bytes} {names : List Bytes} {w z : List ℕ} → Names 
     → ((k : ℕ) → nameBase ≤ k → k < dueBase → getD z k 0 ≡ getD w k 0) → Names text names z
 names-kept {text} {names} {w} {z} s sized kept =
     names-of (omega (arith, s .room)) (s .few) (λ k l. row-kept text names w z k (kept (nameBase + k) (omega arith) (omega (arith, s .few))) (row-of s k l))
-    (λ h l. subst (Link names h (length names)) (sym (kept (headBase + h % 4_096) (omega arith) (omega arith))) (s .heads h l))
+    (λ h l. subst (Link names h (length names)) (sym (ap (λ z. z % 8_192) (kept (headBase + h % 4_096) (omega arith) (omega arith)))) (s .heads h l))
 
 -- ---- one row more
 module _ {text : Bytes} {names : List Bytes} {w : List ℕ} (s : Names text names w) (few : length names < rowsMost) (x : Bytes) where
@@ -113,7 +113,7 @@ module _ {text : Bytes} {names : List Bytes} {w : List ℕ} (s : Names text name
   marked-head : (at mark h : ℕ) → h < 4_096 → (New (more names x) (length names) → hashOf (getD (more names x) (length names) []) ≡ h → ⊥)
       → Link (more names x) h (length names + 1) (headAt (marked w (length names) at mark) h)
   marked-head at mark h q out =
-      subst (Link (more names x) h (length names + 1)) (sym (marked-other at mark (headBase + h % 4_096) (λ e. omega arith)))
+      subst (Link (more names x) h (length names + 1)) (sym (ap (λ z. z % 8_192) (marked-other at mark (headBase + h % 4_096) (λ e. omega arith))))
       (link-past h (length names) _ (link-more names x h (length names) _ (omega arith) (s .heads h q)) out)
 
   -- a row that is of no chain
@@ -145,10 +145,10 @@ module _ {text : Bytes} {names : List Bytes} {w : List ℕ} (s : Names text name
       other : (k : ℕ) → (k ≡ headBase + hashOf x % 4_096 → ⊥) → getD (headed z (length names) (hashOf x)) k 0 ≡ getD z k 0
       other k d = getD-set-other z (headBase + hashOf x % 4_096) k ((length names + 1) % 4_294_967_296) 0 d
 
-      here : getD (headed z (length names) (hashOf x)) (headBase + hashOf x % 4_096) 0 ≡ length names + 1
+      here : headAt (headed z (length names) (hashOf x)) (hashOf x) ≡ length names + 1
       here =
-          getD-set-same z (headBase + hashOf x % 4_096) ((length names + 1) % 4_294_967_296) 0 (omega (arith, sized, s .room))
-          ∙ mod-eq-of-lt (omega arith)
+          ap (λ y. y % 8_192) (getD-set-same z (headBase + hashOf x % 4_096) ((length names + 1) % 4_294_967_296) 0 (omega (arith, sized, s .room)))
+          ∙ omega arith
 
       same : (h : ℕ) → h ≡ hashOf x → Link (more names x) h (length names + 1) (headAt (headed z (length names) (hashOf x)) h)
       same h e =
@@ -157,7 +157,7 @@ module _ {text : Bytes} {names : List Bytes} {w : List ℕ} (s : Names text name
 
       different : (h : ℕ) → h < 4_096 → (h ≡ hashOf x → ⊥) → Link (more names x) h (length names + 1) (headAt (headed z (length names) (hashOf x)) h)
       different h q d =
-          subst (Link (more names x) h (length names + 1)) (sym (other (headBase + h % 4_096) (λ e. d (omega (arith, hash-small x)))))
+          subst (Link (more names x) h (length names + 1)) (sym (ap (λ y. y % 8_192) (other (headBase + h % 4_096) (λ e. d (omega (arith, hash-small x))))))
           (marked-head at mark h q (λ _ e. d (sym e ∙ hash)))
 
   -- ---- the three cases

@@ -124,7 +124,7 @@ pub cleared-length : (w : List ℕ) → length (cleared w) ≡ length w
 cleared-length w = from-length 4_096 headBase w
 
 pub cleared-head : (w : List ℕ) (h : ℕ) → 16_384 ≤ length w → headAt (cleared w) h ≡ 0
-cleared-head w h room = from-here 4_096 headBase w (headBase + h % 4_096) (omega arith) (omega arith) (omega arith)
+cleared-head w h room = ap (λ z. z % 8_192) (from-here 4_096 headBase w (headBase + h % 4_096) (omega arith) (omega arith) (omega arith))
 
 pub cleared-other : (w : List ℕ) (k : ℕ) → (k < headBase) ⊎ (dueBase ≤ k) → getD (cleared w) k 0 ≡ getD w k 0
 cleared-other w k o = from-other 4_096 headBase w k (⊎-elim (λ l. inl l) (λ l. inr (omega arith)) o)

@@ -16,7 +16,7 @@ partOf text at len = cond (leb at (length text) && leb len (length text - at)) (
 
 -- ---- the chain of a hash: a head, and links that fall; 0, or a row and one
 abbrev pub headAt : List ℕ → ℕ → ℕ
-headAt w h = getD w (headBase + h % 4_096) 0
+headAt w h = getD w (headBase + h % 4_096) 0 % 8_192
 
 abbrev pub linkAt : List ℕ → ℕ → ℕ
 linkAt w j = cond (leb (sameAt w j - rowsMost) j) (sameAt w j - rowsMost) 0

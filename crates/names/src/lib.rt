@@ -16,6 +16,9 @@ ghost use Rattle.names.specs.Chains.{Names, partOf, headAt, linkAt, foun
 // How many hashes there are.
 const HASHES: usize = 4096;
 
+// Heads stand below this.
+const HEADS: usize = 8192;
+
 // The part of the text from an offset on; none where it is not inside.
 fn part(text: &[u8], at: usize, len: usize) -> &[u8]
     ensures { λ r. ⌜ now r ≡ partOf (now (text .entry)) at len ⌝ }
@@ -33,7 +36,7 @@ fn part(text: &[u8], at: usize, len: usize) -> &[u8]
 fn head(work: &[u32], hash: usize) -> usize
     ensures { λ r. ⌜ (r ≡ headAt (now (work .entry)) hash) × (r < 4294967296) ⌝ }
 {
-    rows::get(work, HEAD_BASE + hash % HASHES)
+    rows::get(work, HEAD_BASE + hash % HASHES) % HEADS
 }
 
 // The row (and one) after row j in its chain, or 0.

@@ -19,11 +19,11 @@ use Rattle.reader.specs.Laid.{skip}
 abbrev pub FieldIn : Bytes → Part → Type 0
 FieldIn text x = fieldAt text (x .offset) ≡ x .bytes
 
-record Front (bs x : Bytes) : Type 0 where
-  here : take (length x) bs ≡ x
+pub record Front (bs x : Bytes) : Type 0 where
+  pub here : take (length x) bs ≡ x
   short : length x ≤ length bs
 
-field-front : (bs : Bytes) → Front bs (field bs)
+pub field-front : (bs : Bytes) → Front bs (field bs)
 unfolding field
 field-front [] = record { here = refl; short = omega arith }
 field-front (b ∷ bs) = go (isEnd b) (field-front bs)

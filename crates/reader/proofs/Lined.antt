@@ -73,6 +73,9 @@ parse-found : (fs : List Part) → Found (parse fs)
 parse-found [] = tt
 parse-found (f ∷ fs) = found fs 0 words (f .bytes) refl
 
+pub global-line : (fs : List Part) {p : Parsed} → parse fs ≡ some p → p .form ≡ Form.global → p .line ≡ globalLine (p .line .name)
+global-line fs {p} e f = let t : Tabled p = subst Found e (parse-found fs) in t (ap (λ (g : Form). eqb 1 (sortOf g)) f)
+
 -- ---- the same line, read for its form and for its sort
 abbrev pub parsedAs : Form → Line → List ℕ → Parsed
 parsedAs f l counts = record { form = f; line = l; counts = counts }

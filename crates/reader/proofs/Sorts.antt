@@ -74,3 +74,6 @@ attr-sorts = lone-sorts 4 (omega arith)
 
 pub global-sorts : Sorts {A = Form} (λ f. Form.global) (asSort Form.global) 1
 global-sorts = lone-sorts 1 (omega arith)
+
+pub tree-sorts : Sorts {A = Form} (λ f. Form.tree) (asSort Form.tree) 0
+tree-sorts = lone-sorts 0 (omega arith)

@@ -37,7 +37,7 @@ startOf text i = skip (suc i) 0 text
 abbrev pub offsetOf : Bytes → ℕ → Row → ℕ
 offsetOf text i x = elim (nameIn x) [ [] ↦ startOf text i | b ∷ bs ↦ x .line .name .offset ]
 
-abbrev noRow : Row
+abbrev pub noRow : Row
 noRow = row (record { word = 0; start = 0; end = 0; name = noPart; params = [] }) 0
 
 -- the work buffer holds these rows of the text

@@ -1,0 +1,2 @@
+-- The way into a block.
+pub mod Blocks

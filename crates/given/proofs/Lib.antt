@@ -1,0 +1,2 @@
+-- The proofs about the given names.
+pub mod Laws

@@ -1,0 +1,2 @@
+-- The given names.
+pub mod Given

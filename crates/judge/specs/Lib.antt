@@ -1,0 +1,2 @@
+-- The judgement of a read.
+pub mod Judged

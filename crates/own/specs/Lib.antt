@@ -1,0 +1,2 @@
+-- A def's own names.
+pub mod Own

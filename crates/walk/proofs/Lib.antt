@@ -1,0 +1,2 @@
+-- The proofs about the walk.
+pub mod Laws
