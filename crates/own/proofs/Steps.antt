@@ -2,7 +2,7 @@
 -- the loop. Each next row lies after the row, so the loop's laws hold.
 use Prim.Native.Nat.{ℕ, _+_, _*_, _/_, _%_, _≤_, _<_}
 use native.Mathlib.Omega.{arith}
-use mathlib.Core.Path.{_≡_, sym, ap, _∙_}
+use mathlib.Core.Path.{_≡_, ap}
 use mathlib.Core.Bool.{Bool, true, false, cond, _&&_, _||_}
 use mathlib.Core.List.{List}
 use mathlib.Core.Logic.{_⊎_, inl, inr}
@@ -10,7 +10,7 @@ use lib.Dec.{eqb, leb}
 use borrow.Author.Tests.{lt-ltb, le-ltb, eq-eqb, ne-eqb, le-leb, lt-leb}
 use Rattle.rows.specs.Layout.{rowsMost, kindAt, numberAt}
 use Rattle.marks.specs.Marks.{afterRow, stampAt, putStamp}
-use Rattle.marks.proofs.Loops.{rows-more}
+use Rattle.marks.proofs.Loops.{rows-turn}
 use Rattle.own.specs.Own.{never, noted, rowNoted, nextNoted, allNoted}
 
 -- ---- a name is stamped
@@ -85,5 +85,4 @@ module _ (w : List ℕ) (i : ℕ) where
 
 -- ---- a turn of the loop
 pub all-more : (b at stop n : ℕ) (w z : List ℕ) → at < stop → n ≡ nextNoted w at → z ≡ rowNoted b at w → allNoted b n stop z ≡ allNoted b at stop w
-all-more b at stop n w z l p q =
-    ap (λ j. allNoted b j stop z) p ∙ (ap (allNoted b (nextNoted w at) stop) q ∙ sym (rows-more nextNoted (rowNoted b) next-on at stop w l))
+all-more b = rows-turn nextNoted (rowNoted b) next-on

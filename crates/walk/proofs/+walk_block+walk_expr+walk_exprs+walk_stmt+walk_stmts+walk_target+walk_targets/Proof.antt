@@ -353,7 +353,9 @@ walk-expr-returns-6 t c =
     (λ e. m .match .rest .1 (k .kind .ensures ∙ e)) (w .walk-exprs2 .ensures)
 
 abbrev walk-exprs-Inv-loop : walk-exprs-lts.InvT-loop
-walk-exprs-Inv-loop text work₀ left s first stop at₀ work at = (length work ≡ length work₀) × (walkExprs left text s at stop work ≡ walkExprs left text s first stop work₀)
+walk-exprs-Inv-loop text work₀ left s first stop at₀ work at =
+    (length work ≡ length work₀)
+    × (walkExprs left text s at stop work ≡ walkExprs left text s first stop work₀)
 
 abbrev walk-exprs-μ-loop : walk-exprs-lts.MeasureT-loop
 walk-exprs-μ-loop text work₀ left s first stop at₀ work at = stop - at
@@ -711,7 +713,9 @@ walk-stmt-returns-10 t c =
     (λ e. m .match .rest .0 .1 (k .kind .ensures ∙ e)) (λ e. m .match .rest .1 (k .kind .ensures ∙ e)) (w .walk-stmts3 .ensures)
 
 abbrev walk-stmts-Inv-loop : walk-stmts-lts.InvT-loop
-walk-stmts-Inv-loop text work₀ left s first stop at₀ work at = (length work ≡ length work₀) × (walkStmts left text s at stop work ≡ walkStmts left text s first stop work₀)
+walk-stmts-Inv-loop text work₀ left s first stop at₀ work at =
+    (length work ≡ length work₀)
+    × (walkStmts left text s at stop work ≡ walkStmts left text s first stop work₀)
 
 abbrev walk-stmts-μ-loop : walk-stmts-lts.MeasureT-loop
 walk-stmts-μ-loop text work₀ left s first stop at₀ work at = stop - at
