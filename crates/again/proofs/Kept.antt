@@ -55,7 +55,7 @@ pub record Shown (text : Bytes) (w : List ℕ) (i : ℕ) (l : Line) : Type 0 whe
 
 -- ---- a row
 module _ {text : Bytes} {rows : List Row} {w : List ℕ} (h : Holds text rows w) (i : ℕ) (l : i < length rows) where
-  first-number : getD w i 0 ≡ numberOf (getD rows i noRow)
+  pub first-number : getD w i 0 ≡ numberOf (getD rows i noRow)
   first-number = sym (getD-take (length rows) w i 0 l) ∙ (ap (λ (v : List ℕ). getD v i 0) (h .numbers) ∙ List·getD-map numberOf rows i noRow)
 
   module _ (a : Again text i (getD rows i noRow .line)) where

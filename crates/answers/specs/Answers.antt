@@ -72,11 +72,11 @@ message text work i out = messageIn i out (reading text work)
 
 -- ---- "name: the name of fault i is handed back as a part of the tree text. The part is empty for kind 14, for any of refusals 1 to 7 and
 -- where no fault i exists."
-abbrev nameOf : Option Fault → Part
+abbrev pub nameOf : Option Fault → Part
 nameOf none = noPart
 nameOf (some f) = f .name
 
-abbrev nameIn : ℕ → Reading → Part
+abbrev pub nameIn : ℕ → Reading → Part
 nameIn i (tree t) = nameOf (faultAt (faults t) i)
 nameIn i (refusal k n) = noPart
 

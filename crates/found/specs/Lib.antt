@@ -1,0 +1,2 @@
+-- The faults of a text, found.
+pub mod Found

@@ -1,0 +1,7 @@
+-- The entries are the faults, in order. Theorems states it. Reach says how far rows reach, Right what a fault is by the rows, Parts that each
+-- fault of a tree is so, Listed what is listed at each row.
+pub mod Theorems
+pub mod Reach
+pub mod Right
+pub mod Parts
+pub mod Listed

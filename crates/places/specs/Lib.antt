@@ -1,0 +1,2 @@
+-- Which entry shows which fault.
+pub mod Shown

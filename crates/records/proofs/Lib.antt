@@ -1,0 +1,2 @@
+-- The proofs about records.
+mod Laws

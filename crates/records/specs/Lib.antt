@@ -1,0 +1,2 @@
+-- The records of faults.
+pub mod Records
