@@ -1,0 +1,3 @@
+-- The proofs about the lines.
+mod Digits
+mod Lines

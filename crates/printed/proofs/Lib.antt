@@ -1,0 +1,3 @@
+-- The proofs about what is printed.
+pub mod Reported
+pub mod Room
