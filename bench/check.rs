@@ -6,10 +6,8 @@ use std::hint::black_box;
 use std::time::Instant;
 
 mod builtins;
-#[path = "parser/ast.rs"]
-mod ast;
 mod parser {
-    pub use crate::ast;
+    pub mod ast;
 }
 mod semantic;
 mod tree;
@@ -265,9 +263,9 @@ fn nested(count: usize) -> Vec<u8> {
 }
 
 fn main() {
-    compare("a script of 100 lines", &script(100), 10000);
-    compare("a script of 1,000 lines", &script(1000), 1000);
-    compare("a script of 3,000 lines", &script(3000), 300);
+    compare("a script of 100 lines", &script(130), 10000);
+    compare("a script of 1,000 lines", &script(1030), 1000);
+    compare("a script of 3,000 lines", &script(3030), 300);
     compare("the longest script that fits", &script(3460), 300);
     compare("1,023 functions in a function", &nested(1023), 10);
     let deep = format!("tree\t0\t1\n{}pass\t0\t1\n", (0..63).map(|i| format!("def\t0\t1\tf{i}\t1\tp{i}\n")).collect::<String>());

@@ -1,0 +1,214 @@
+// Replays calls of check, report, message and name, and writes a line for each: the answer, and a sum over the whole output buffer.
+//
+// Standard input is frames: a letter, two numbers of four bytes, the low byte first, and bytes for t and r.
+//   t 0 n ..   the text is these n bytes           r k n ..   k copies of these n bytes more
+//   c n v      check, with n numbers to work in, each v
+//   p n k      report, with n numbers to work in and k numbers of output, all 4,294,967,295
+//   q n k      the same, all 0
+//   m i k      message of fault i, to k bytes of output, all 255
+//   n i _      name of fault i
+use frames::Step;
+use libc::STDOUT_FILENO;
+use records::Record;
+use serduzhap::CheckResult;
+use serduzhap::MessageResult;
+use serduzhap::ReportResult;
+ghost use Prim.Native.Nat.{_+_, _≤_, _<_};
+ghost use lib.ListN.{length};
+
+fn say(bytes: &[u8]) {
+    io::write_all(STDOUT_FILENO, bytes);
+}
+
+fn narrow(n: usize) -> u32 {
+    (n % 4294967296) as u32
+}
+
+fn wide(n: u32) -> usize
+    ensures { λ r. ⌜ r < 4294967296 ⌝ }
+{
+    n as usize
+}
+
+fn fill(work: &mut [u32], value: u32) {
+    let mut i = 0;
+    while i < work.len() {
+        work[i] = value;
+        i += 1;
+    }
+}
+
+fn fill_bytes(out: &mut [u8], value: u8) {
+    let mut i = 0;
+    while i < out.len() {
+        out[i] = value;
+        i += 1;
+    }
+}
+
+// A sum over numbers.
+fn sum_of(numbers: &[u32]) -> usize {
+    let mut sum: usize = 0;
+    let mut i = 0;
+    while i < numbers.len() {
+        sum = frames::summed(sum, wide(numbers[i]));
+        i += 1;
+    }
+    sum
+}
+
+// A sum over bytes.
+fn sum_of_bytes(bytes: &[u8]) -> usize {
+    let mut sum: usize = 0;
+    let mut i = 0;
+    while i < bytes.len() {
+        sum = frames::summed(sum, frames::byte_at(bytes, i));
+        i += 1;
+    }
+    sum
+}
+
+fn say_refused(number: usize, line: usize) {
+    say(b"refused\t");
+    frames::put(number, b"\t");
+    frames::put(line, b"\t");
+}
+
+fn say_record(r: Record) {
+    frames::put(r.kind, b"\t");
+    frames::put(wide(r.start), b"\t");
+    frames::put(wide(r.end), b"\t");
+    frames::put(r.name, b"\t");
+    frames::put(r.name_len, b"\t");
+    frames::put(r.class, b"\t");
+    frames::put(r.class_len, b"\n");
+}
+
+fn check(text: &[u8], work: &mut [u32], value: u32) {
+    fill(work, value);
+    say(b"check\t");
+    match serduzhap::check(text, work) {
+        CheckResult::Accepted => say(b"accepted\n"),
+        CheckResult::Faulty { record } => say_record(record),
+        CheckResult::Refused { number, line } => {
+            say_refused(number, line);
+            say(b"\n");
+        }
+    }
+}
+
+fn report(text: &[u8], work: &mut [u32], out: &mut [u32], value: u32) {
+    fill(work, value);
+    fill(out, value);
+    say(b"report\t");
+    match serduzhap::report(text, work, out) {
+        ReportResult::Written { count } => {
+            say(b"written\t");
+            frames::put(count, b"\t");
+        }
+        ReportResult::Refused { number, line } => say_refused(number, line),
+    }
+    frames::put(sum_of(out), b"\n");
+}
+
+// Writes the message of fault i to the output.
+fn message(text: &[u8], work: &mut [u32], i: usize, out: &mut [u8]) {
+    fill(work, 4294967295);
+    fill_bytes(out, 255);
+    say(b"message\t");
+    match serduzhap::message(text, work, i, out) {
+        MessageResult::Written { len } => {
+            say(b"written\t");
+            frames::put(len, b"\t");
+            say(frames::first(out, len));
+            say(b"\t");
+        }
+        MessageResult::Refused { number, line } => say_refused(number, line),
+        MessageResult::NoFault => say(b"17\t"),
+        MessageResult::TooLong => say(b"18\t"),
+    }
+    frames::put(sum_of_bytes(out), b"\n");
+}
+
+fn name(text: &[u8], work: &mut [u32], i: usize) {
+    fill(work, 4294967295);
+    say(b"name\t");
+    let found = serduzhap::name(text, work, i);
+    frames::put(found.len(), b"\t");
+    say(found);
+    say(b"\n");
+}
+
+// Runs the call of a letter.
+fn call(
+    letter: usize,
+    a: usize,
+    b: usize,
+    text: &[u8],
+    work: &mut [u32],
+    out: &mut [u32],
+    bytes: &mut [u8],
+) {
+    let n = frames::least(a, work.len());
+    let k = frames::least(b, out.len());
+    let m = frames::least(b, bytes.len());
+    match letter {
+        99 => check(text, &mut work[0..n], narrow(b)),
+        112 => report(text, &mut work[0..n], &mut out[0..k], 4294967295),
+        113 => report(text, &mut work[0..n], &mut out[0..k], 0),
+        109 => message(text, work, a, &mut bytes[0..m]),
+        _ => name(text, work, a),
+    }
+}
+
+// Runs the frame at s, and answers where the next one is.
+fn frame(
+    all: &[u8],
+    s: Step,
+    text: &mut [u8],
+    work: &mut [u32],
+    out: &mut [u32],
+    bytes: &mut [u8],
+) -> Step
+    requires { ⌜ s .at < 4294967296 ⌝ }
+    ensures { λ r. ⌜ s .at < r .at ⌝ }
+{
+    let a = frames::number(all, s.at + 1);
+    let b = frames::number(all, s.at + 5);
+    let from = s.at + 9;
+    let end = from + b;
+    match frames::byte_at(all, s.at) {
+        116 => Step {
+            at: end,
+            len: frames::copy(all, from, end, text, 0),
+        },
+        114 => Step {
+            at: end,
+            len: frames::copies(all, from, end, a, text, s.len),
+        },
+        letter => {
+            call(letter, a, b, frames::first(text, s.len), work, out, bytes);
+            Step {
+                at: from,
+                len: s.len,
+            }
+        }
+    }
+}
+
+fn run(all: &[u8]) {
+    let mut text = [0u8; 70000];
+    let mut work = [0u32; 16400];
+    let mut out = [0u32; 16400];
+    let mut bytes = [0u8; 512];
+    let mut s = Step { at: 0, len: 0 };
+    while s.at < all.len() && s.at < 4294967296 {
+        s = frame(all, s, &mut text, &mut work, &mut out, &mut bytes);
+    }
+}
+
+fn main() {
+    let mut all = [0u8; 262144];
+    let n = io::read_full(0, &mut all);
+    run(&all[0..n]);
+}

@@ -1,0 +1,2 @@
+-- The answers of the calls as numbers, for C.
+pub mod Numbers
