@@ -1,26 +1,20 @@
 //! Times `check` beside the name pass of the Rust original, in one process on one input: from the text against a plain parser and the pass,
-//! and against the pass alone on a tree that is ready. bench/check.sh builds and runs it.
+//! and against the pass alone on a tree that is ready. bench/run.sh builds and runs it.
 #![allow(dead_code)]
 
 use std::hint::black_box;
-use std::time::Instant;
 
 mod builtins;
 mod parser {
     pub mod ast;
 }
 mod semantic;
+#[macro_use]
+mod timing;
 mod tree;
+mod types;
 
-mod types {
-    #[derive(Debug, Clone, Copy, PartialEq)]
-    pub struct Span {
-        pub start: u32,
-        pub end: u32,
-    }
-
-    pub type Spanned<T> = (T, Span);
-}
+use timing::{best, Numbers};
 
 mod vm {
     pub mod type_def {
@@ -63,46 +57,6 @@ fn check(text: &[u8], work: &mut [u32]) -> CheckNumbers {
     unsafe { serduzhap_check(text.as_ptr(), text.len(), work.as_mut_ptr(), work.len()) }
 }
 
-/// The bytes of stack that one call touches: it runs on a stack of its own, filled with a pattern before.
-#[cfg(target_arch = "x86_64")]
-fn stack_used(text: &[u8], work: &mut [u32]) -> usize {
-    const SIZE: usize = 1 << 20;
-    let mut stack = vec![0xa5a5_a5a5_a5a5_a5a5u64; SIZE / 8];
-    let mut numbers = CheckNumbers { number: 0, line: 0, start: 0, end: 0, name: 0, name_len: 0, class: 0, class_len: 0 };
-    unsafe {
-        let top = (stack.as_mut_ptr() as usize + SIZE) & !15;
-        std::arch::asm!(
-            "mov r12, rsp",
-            "mov rsp, {top}",
-            "call {check}",
-            "mov rsp, r12",
-            top = in(reg) top,
-            check = sym serduzhap_check,
-            in("rdi") &mut numbers,
-            in("rsi") text.as_ptr(),
-            in("rdx") text.len(),
-            in("rcx") work.as_mut_ptr(),
-            in("r8") work.len(),
-            out("r12") _,
-            clobber_abi("C"),
-        );
-    }
-    SIZE - 8 * stack.iter().take_while(|&&word| word == 0xa5a5_a5a5_a5a5_a5a5).count()
-}
-
-/// The best of several runs, in µs for one call.
-fn best(calls: u32, mut call: impl FnMut() -> usize) -> f64 {
-    let mut least = f64::MAX;
-    for _ in 0..15 {
-        let start = Instant::now();
-        for _ in 0..calls {
-            black_box(call());
-        }
-        least = least.min(start.elapsed().as_nanos() as f64 / f64::from(calls));
-    }
-    least / 1000.0
-}
-
 fn pass(tree: &tree::Tree) -> bool {
     semantic::analyze_with_globals(&tree.body, &tree.globals).is_ok()
 }
@@ -111,9 +65,9 @@ fn compare(title: &str, text: &[u8], calls: u32) {
     let mut work = vec![u32::MAX; 16384];
     let ready = tree::parse(text).unwrap_or_else(|at| panic!("{title}: refused {} at {}", at.number, at.line));
     assert_eq!(check(text, &mut work).number == 0, pass(&ready), "{title}");
-    let ours = best(calls, || check(black_box(text), &mut work).number);
-    let both = best(calls, || tree::parse(black_box(text)).map_or(0, |tree| usize::from(pass(&tree))));
-    let alone = best(calls, || usize::from(pass(black_box(&ready))));
+    let ours = best(calls, || check(black_box(text), &mut work).number) / 1000.0;
+    let both = best(calls, || tree::parse(black_box(text)).map_or(0, |tree| usize::from(pass(&tree)))) / 1000.0;
+    let alone = best(calls, || usize::from(pass(black_box(&ready)))) / 1000.0;
     println!(
         "{title:<36} {:>6} bytes {:>5} lines | check {ours:>8.1} µs | parse and pass {both:>8.1} µs, {:>4.1} times | pass alone {alone:>8.1} µs, {:>4.1} times",
         text.len(),
@@ -121,18 +75,6 @@ fn compare(title: &str, text: &[u8], calls: u32) {
         both / ours,
         alone / ours
     );
-}
-
-/// A small generator of numbers, so that every run times the same texts.
-struct Numbers(u64);
-
-impl Numbers {
-    fn below(&mut self, n: usize) -> usize {
-        self.0 ^= self.0 << 13;
-        self.0 ^= self.0 >> 7;
-        self.0 ^= self.0 << 17;
-        (self.0 % n as u64) as usize
-    }
 }
 
 const NAMES: [&str; 12] =
@@ -274,8 +216,8 @@ fn main() {
     let mut work = vec![0; 16384];
     println!(
         "stack: {} bytes for the script of 3,000 lines, {} and {} at depth 64 (functions, lambdas)",
-        stack_used(&script(3000), &mut work),
-        stack_used(deep.as_bytes(), &mut work),
-        stack_used(lambdas.as_bytes(), &mut work)
+        stack_used!(serduzhap_check, CheckNumbers, &script(3000), &mut work),
+        stack_used!(serduzhap_check, CheckNumbers, deep.as_bytes(), &mut work),
+        stack_used!(serduzhap_check, CheckNumbers, lambdas.as_bytes(), &mut work)
     );
 }

@@ -1,10 +1,18 @@
 //! Times the reader beside a plain Rust parser of the same text into boxed trees, in one process on one input.
-//! README.md says how to build and run it.
+//! bench/run.sh builds and runs it.
+#![allow(dead_code)]
 
 use std::hint::black_box;
-use std::time::Instant;
 
-mod boxed;
+mod parser {
+    pub mod ast;
+}
+#[macro_use]
+mod timing;
+mod tree;
+mod types;
+
+use timing::{best, Numbers};
 
 #[repr(C)]
 struct ReadNumbers {
@@ -22,56 +30,16 @@ fn read(text: &[u8], work: &mut [u32]) -> ReadNumbers {
     unsafe { serduzhap_read(text.as_ptr(), text.len(), work.as_mut_ptr(), work.len()) }
 }
 
-/// The bytes of stack that one call touches: it runs on a stack of its own, filled with a pattern before.
-#[cfg(target_arch = "x86_64")]
-fn stack_used(text: &[u8], work: &mut [u32]) -> usize {
-    const SIZE: usize = 1 << 20;
-    let mut stack = vec![0xa5a5_a5a5_a5a5_a5a5u64; SIZE / 8];
-    let mut numbers = ReadNumbers { refusal: 0, line: 0, globals: 0, lines: 0 };
-    unsafe {
-        let top = (stack.as_mut_ptr() as usize + SIZE) & !15;
-        std::arch::asm!(
-            "mov r12, rsp",
-            "mov rsp, {top}",
-            "call {read}",
-            "mov rsp, r12",
-            top = in(reg) top,
-            read = sym serduzhap_read,
-            in("rdi") &mut numbers,
-            in("rsi") text.as_ptr(),
-            in("rdx") text.len(),
-            in("rcx") work.as_mut_ptr(),
-            in("r8") work.len(),
-            out("r12") _,
-            clobber_abi("C"),
-        );
-    }
-    SIZE - 8 * stack.iter().take_while(|&&word| word == 0xa5a5_a5a5_a5a5_a5a5).count()
-}
-
-/// The best of several runs, in ns for one call.
-fn best(calls: u32, mut call: impl FnMut() -> usize) -> f64 {
-    let mut least = f64::MAX;
-    for _ in 0..15 {
-        let start = Instant::now();
-        for _ in 0..calls {
-            black_box(call());
-        }
-        least = least.min(start.elapsed().as_nanos() as f64 / f64::from(calls));
-    }
-    least
-}
-
 fn compare(title: &str, text: &[u8], calls: u32) {
     let mut work = vec![u32::MAX; 16384];
     let numbers = read(text, &mut work);
-    let tree = boxed::parse(text);
+    let tree = tree::parse(text);
     match &tree {
         Ok(tree) => assert_eq!((numbers.refusal, numbers.lines, numbers.globals), (0, tree.lines, tree.globals.len()), "{title}"),
         Err(at) => assert_eq!((numbers.refusal, numbers.line), (at.number, at.line), "{title}"),
     }
     let ours = best(calls, || read(black_box(text), &mut work).lines);
-    let theirs = best(calls, || boxed::parse(black_box(text)).map_or(0, |tree| tree.lines));
+    let theirs = best(calls, || tree::parse(black_box(text)).map_or(0, |tree| tree.lines));
     let bytes = text.len() as f64;
     println!(
         "{title:<34} {:>6} bytes {:>5} lines | {:>6.2} ns a byte {:>6.1} µs | boxed {:>6.2} ns a byte | {:.1} times faster",
@@ -82,18 +50,6 @@ fn compare(title: &str, text: &[u8], calls: u32) {
         theirs / bytes,
         theirs / ours
     );
-}
-
-/// A small generator of numbers, so that every run times the same texts.
-struct Numbers(u64);
-
-impl Numbers {
-    fn below(&mut self, n: usize) -> usize {
-        self.0 ^= self.0 << 13;
-        self.0 ^= self.0 >> 7;
-        self.0 ^= self.0 << 17;
-        (self.0 % n as u64) as usize
-    }
 }
 
 const NAMES: [&str; 15] =
@@ -183,7 +139,7 @@ fn main() {
     let mut work = vec![0; 16384];
     println!(
         "stack: {} bytes for the script, {} bytes at depth 64",
-        stack_used(&wide, &mut work),
-        stack_used(deep.as_bytes(), &mut work)
+        stack_used!(serduzhap_read, ReadNumbers, &wide, &mut work),
+        stack_used!(serduzhap_read, ReadNumbers, deep.as_bytes(), &mut work)
     );
 }

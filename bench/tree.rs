@@ -1,12 +1,12 @@
 //! A plain Rust parser of the tree text into the trees of the Rust original, as a maker would write it.
 
+use crate::parser::ast::{BinaryOp, Expr, ExprS, Literal, MethodDef, Stmt, StmtS, UnaryOp};
+use crate::types::Span;
+
 pub struct Refusal {
     pub number: usize,
     pub line: usize,
 }
-
-use crate::parser::ast::{BinaryOp, Expr, ExprS, Literal, MethodDef, Stmt, StmtS, UnaryOp};
-use crate::types::Span;
 
 pub struct Tree {
     pub globals: Vec<String>,
