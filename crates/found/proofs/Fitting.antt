@@ -78,6 +78,7 @@ pub record Fits (text : Bytes) (f : Fault) : Type 0 where
   pub end : f .end < 4_294_967_296
   pub name : Named text (f .name)
   pub class : Named text (f .inClass)
+  pub noClass : (f .kind ≡ 15 → ⊥) → f .inClass ≡ noPart
 
 all-by-place : {P : Fault → Type 0} (n m : ℕ) {fs : List Fault} → All P fs → All P (byPlace n m fs)
 all-by-place n zero a = none
@@ -114,6 +115,7 @@ module _ (text : Bytes) (work : ℕ) (t : Tree) (e : reading text work ≡ tree 
         end = omega (arith, a .1 .end, s .end);
         name = shows-name s (ℕ-discrete (f .kind) 14);
         class = shows-class s (ℕ-discrete (f .kind) 15);
+        noClass = s .noClass;
       }
 
   pub faults-fit : All (Fits text) (faults t)

@@ -3,7 +3,7 @@ use Prim.Native.Nat.{ℕ, _≤_}
 use mathlib.Core.Path.{_≡_}
 use mathlib.Core.Option.{some}
 use lib.ListN.{length}
-use Rattle.text.specs.Bytes.{Bytes}
+use Rattle.text.specs.Bytes.{Bytes, noPart}
 use Rattle.text.specs.Tree.{Tree}
 use Rattle.text.specs.Reading.{tree, reading}
 use Rattle.faults.specs.Faults.{Fault, faults}
@@ -20,3 +20,7 @@ module _ (text : Bytes) (work : ℕ) (t : Tree) (e : reading text work ≡ tree 
 
   pub faults-short : (length (f .name .bytes) ≤ 63) × (length (f .inClass .bytes) ≤ 63)
   faults-short = (fits .name .short, fits .class .short)
+
+  -- only kind 15 has a class name
+  pub faults-classless : (f .kind ≡ 15 → ⊥) → f .inClass ≡ noPart
+  faults-classless = fits .noClass

@@ -73,10 +73,11 @@ pub fn copies(
     k
 }
 
-pub fn fill(work: &mut [u32]) {
+// Fills a buffer.
+pub fn fill(work: &mut [u32], value: u32) {
     let mut i = 0;
     while i < work.len() {
-        work[i] = 4294967295;
+        work[i] = value;
         i += 1;
     }
 }

@@ -1,3 +1,4 @@
 -- The proofs about what is printed.
 pub mod Reported
 pub mod Room
+mod Cases

@@ -1,20 +1,16 @@
 -- The lines of a report's records are the lines of its faults: the numbers at seven times j are those of the j-th fault, and the parts of the
 -- text that they show are the fault's names. So what `print` pushes is what is printed.
-use Prim.Native.Nat.{ℕ, suc, _+_, _*_, _≤_, _<_}
+use Prim.Native.Nat.{ℕ, suc, _+_, _*_, _<_}
 use native.Mathlib.Omega.{arith}
-use mathlib.Core.Path.{_≡_, refl, sym, ap, subst, _∙_}
-use mathlib.Core.Bool.{Bool, true, false}
+use mathlib.Core.Path.{_≡_, refl, sym, ap, _∙_}
 use mathlib.Core.List.{List, [], _∷_, _++_, append-assoc}
 use mathlib.Core.Option.{some}
-use lib.Dec.{ltb}
-use lib.ListN.{length, drop, getD, length-append}
-use borrow.Author.Tests.{ltb-false}
+use lib.ListN.{length, drop, length-append}
 use lib.Seq.{getD-append-add, getD-append-seam}
-use Rattle.text.specs.Bytes.{Bytes, Part}
-use Rattle.text.specs.Tree.{Tree}
-use Rattle.text.specs.Reading.{Reading, tree, refusal, reading, shortestWork}
-use Rattle.faults.specs.Faults.{Fault, faults, recordLength, record7, records}
-use Rattle.answers.specs.Answers.{ReportAnswer, written, refused, reported, report, reportOf, reportOut, faultAt, over}
+use Rattle.text.specs.Bytes.{Bytes}
+use Rattle.text.specs.Reading.{shortestWork}
+use Rattle.faults.specs.Faults.{Fault, faults, record7, records}
+use Rattle.answers.specs.Answers.{ReportAnswer, report, faultAt, over, reportOut}
 use Rattle.answers.specs.Printed.{decimalOf, lineWith, faultLine, faultLines, refusedLine, reportBuffer, printed}
 use Rattle.records.specs.declared.Record.{Record}
 use Rattle.output.specs.Lines.{recordIn, recordLine, recordLines}
@@ -23,6 +19,7 @@ use Rattle.found.proofs.Theorems.{faults-shown}
 use Rattle.serduzhap.specs.Calls.{reportSays}
 use Rattle.serduzhap.specs.declared.ReportResult.{ReportResult}
 use Rattle.serduzhap.specs.declared.ReportResult.the-variants as R
+use Rattle.printed.proofs.Cases.{by-answer}
 
 both : {a b c d : Bytes} → a ≡ b → c ≡ d → a ++ c ≡ b ++ d
 both x y = cc
@@ -74,73 +71,28 @@ module _ (text : Bytes) where
       → recordLines text (over (records fs) old) 0 (length fs) ≡ faultLines fs
   lines-reported fs old = lines-from fs [] (drop (length (records fs)) old) 0 refl
 
--- ---- the answer of `report`, to buffers of 16,384 numbers, as it is printed
-abbrev pub said : Bytes → List ℕ → ReportAnswer → Bytes
-said text old (written ns k) = recordLines text (over ns old) 0 k ++ lineWith "faults" (decimalOf k ∷ [])
-said text old (refused k n) = refusedLine k n
+-- ---- `report` returned r, and left the numbers ns in the report buffer
+abbrev Reports : List ℕ → ReportResult → List ℕ → ReportAnswer → Type 0
+Reports old r ns a = (r ≡ reportSays a) × (ns ≡ reportOut a old)
 
-module _ (text : Bytes) (old : List ℕ) where
-  pub said-printed : said text old (report text shortestWork reportBuffer) ≡ printed text
-  said-printed = go (reading text shortestWork) refl
-    where
-      listed : (t : Tree) (b : Bool) → reading text shortestWork ≡ tree t → ltb reportBuffer (recordLength * length (faults t)) ≡ b
-          → said text old (report text shortestWork reportBuffer) ≡ printed text
-      listed t true e o =
-          let r : reported reportBuffer (faults t) ≡ refused 16 (length (faults t)) = rw (o, reported) in
-          rw (e, r)
-      listed t false e o =
-          let r : reported reportBuffer (faults t) ≡ written (records (faults t)) (length (faults t)) = rw (o, reported) in
-          rw (e, r) (both (lines-reported text (faults t) old (faults-shown text shortestWork t e)) refl)
+module _ (text : Bytes) (work old : List ℕ) (long : length work ≡ shortestWork) (room : length old ≡ reportBuffer) (r : ReportResult) (ns : List ℕ)
+    (e : Reports old r ns (report text (length work) (length old))) where
+  here : Reports old r ns (report text shortestWork reportBuffer)
+  here = rw (long, room) at e
 
-      go : (x : Reading) → reading text shortestWork ≡ x → said text old (report text shortestWork reportBuffer) ≡ printed text
-      go (tree t) e = listed t (ltb reportBuffer (recordLength * length (faults t))) e refl
-      go (refusal k n) e = rw e
-
--- as many records as there is room for
-few-records : (text : Bytes) (work out : ℕ) (ns : List ℕ) (k : ℕ) → report text work out ≡ written ns k → 7 * k ≤ out
-few-records text work out ns k = go (reading text work)
-  where
-    fit : (fs : List Fault) (b : Bool) → ltb out (recordLength * length fs) ≡ b
-        → elim b [ true ↦ ReportAnswer.refused 16 (length fs) | false ↦ written (records fs) (length fs) ] ≡ written ns k → 7 * k ≤ out
-    fit fs true o e = let z : _≡_ {A = ℕ} 0 1 = cc in omega arith
-    fit fs false o e = let i : length fs ≡ k = cc in omega (arith, ltb-false out (recordLength * length fs) o)
-
-    go : (x : Reading) → reportOf out x ≡ written ns k → 7 * k ≤ out
-    go (tree t) e = fit (faults t) (ltb out (recordLength * length (faults t))) refl e
-    go (refusal i n) e = let z : _≡_ {A = ℕ} 0 1 = cc in omega arith
-
--- ---- what `report` returns, r, and the report buffer after it, ns
-module _ (text : Bytes) (old ns : List ℕ) (r : ReportResult) where
-  written-said : (a : ReportAnswer) → r ≡ reportSays a → ns ≡ reportOut a old → (k : ℕ) → r ≡ R.Written k
-      → recordLines text ns 0 k ++ lineWith "faults" (decimalOf k ∷ []) ≡ said text old a
-  written-said (written ms m) e o k h = let i : k ≡ m = cc in rw (i, o)
-  written-said (refused m n) e o k h = let z : _≡_ {A = ℕ} 0 1 = cc in absurd (omega arith)
-
-  refused-said : (a : ReportAnswer) → r ≡ reportSays a → (k n : ℕ) → r ≡ R.Refused k n → refusedLine k n ≡ said text old a
-  refused-said (written ms m) e k n h = let z : _≡_ {A = ℕ} 0 1 = cc in absurd (omega arith)
-  refused-said (refused i m) e k n h =
-      let p : k ≡ i = cc in
-      let q : n ≡ m = cc in
-      rw (p, q)
-
-  written-few : (work out : ℕ) (a : ReportAnswer) → report text work out ≡ a → r ≡ reportSays a → (k : ℕ) → r ≡ R.Written k → 7 * k ≤ out
-  written-few work out (written ms m) d e k h = let i : k ≡ m = cc in omega (arith, few-records text work out ms m d)
-  written-few work out (refused m n) d e k h = let z : _≡_ {A = ℕ} 0 1 = cc in absurd (omega arith)
-
-module _ (text : Bytes) (work old : List ℕ) (long : length work ≡ shortestWork) (room : length old ≡ reportBuffer)
-    (r : ReportResult) (ns : List ℕ)
-    (e : (r ≡ reportSays (report text (length work) (length old))) × (ns ≡ reportOut (report text (length work) (length old)) old)) where
-  abbrev answer : ReportAnswer
-  answer = report text (length work) (length old)
-
-  all-printed : said text old answer ≡ printed text
-  all-printed = rw (long, room) (said-printed text old)
-
-  pub print-written : (k : ℕ) → r ≡ R.Written k → recordLines text ns 0 k ++ lineWith "faults" (decimalOf k ∷ []) ≡ printed text
-  print-written k h = written-said text old ns r answer (e .0) (e .1) k h ∙ all-printed
+  pub print-written : (k : ℕ) → r ≡ R.Written k → (recordLines text ns 0 k ++ lineWith "faults" (decimalOf k ∷ []) ≡ printed text) × (k < 16_777_216)
+  print-written k h =
+      by-answer text (λ a b. Reports old r ns a → (recordLines text ns 0 k ++ lineWith "faults" (decimalOf k ∷ []) ≡ b) × (k < 16_777_216))
+      (λ i n d. let z : _≡_ {A = ℕ} 0 1 = cc in absurd (omega arith))
+      (λ t g few d.
+      let i : k ≡ length (faults t) = cc in
+      (rw (i, d .1) (both (lines-reported text (faults t) old (faults-shown text shortestWork t g)) refl), omega arith)) here
 
   pub print-refused : (k n : ℕ) → r ≡ R.Refused k n → refusedLine k n ≡ printed text
-  print-refused k n h = refused-said text old ns r answer (e .0) k n h ∙ all-printed
-
-  pub print-few : (k : ℕ) → r ≡ R.Written k → k < 16_777_216
-  print-few k h = omega (arith, written-few text old ns r (length work) (length old) answer refl (e .0) k h, room)
+  print-refused k n h =
+      by-answer text (λ a b. Reports old r ns a → refusedLine k n ≡ b)
+      (λ i m d.
+      let p : k ≡ i = cc in
+      let q : n ≡ m = cc in
+      rw (p, q))
+      (λ t g few d. let z : _≡_ {A = ℕ} 0 1 = cc in absurd (omega arith)) here

@@ -1,26 +1,24 @@
--- What is printed for a text has at most 524,288 bytes, the length of the output buffer of `namecheck`: at most 2,340 faults are printed, a third
--- of 7,021 lines of at most 223 bytes.
+-- What is printed for a text has at most 524,288 bytes, so the output buffer of `namecheck` holds it all: at most 2,340 faults are printed, since
+-- the report buffer has no room for more records, each on a line of at most 223 bytes.
 use Prim.Native.Nat.{ℕ, zero, suc, _+_, _*_, _/_, _%_, _≤_}
+use native.Mathlib.Decide.{ℕ-discrete}
 use native.Mathlib.Omega.{arith}
 use mathlib.Core.Path.{_≡_, refl, ap, _∙_}
-use mathlib.Core.Bool.{Bool, true, false, not}
+use mathlib.Core.Bool.{Bool, true, false}
 use mathlib.Core.List.{List, [], _∷_, _++_}
-use mathlib.Core.Logic.{_⊎_, inl, inr}
 use mathlib.Core.Option.{some}
 use lib.Dec.{eqb, ltb}
-use lib.ListN.{length, length-append}
-use borrow.Author.Tests.{ltb-false}
+use lib.ListN.{length, take, length-append}
 use Rattle.text.specs.Bytes.{Bytes, Part, noPart, bytes}
-use Rattle.text.specs.Tree.{Line, Tree, lenSs, firstLine}
-use Rattle.text.specs.Reading.{Reading, tree, refusal, reading, shortestWork}
-use Rattle.faults.specs.Position.{Where, Visited, Role, isRead, isTarget, isRefused, isDef, isClass, isLambda, isOther, isFor, isMethod, visited}
-use Rattle.faults.specs.Faults.{Binding, bindings, Fault, unless, lacksSelf, selfless, judged, judge, byPlace, faults, recordLength, records, message, messageOf}
-use Rattle.faults.proofs.Lists.{All, none, also, all-append, all-keep}
-use Rattle.faults.proofs.Read.{read-fault}
-use Rattle.answers.specs.Answers.{written, refused, reported, faultAt}
-use Rattle.answers.specs.Printed.{digits, decimalOf, tabbed, lineWith, faultLine, faultLines, refusedLine, reportBuffer, printed}
+use Rattle.text.specs.Reading.{shortestWork}
+use Rattle.faults.specs.Faults.{Fault, faults, message, messageOf}
+use Rattle.answers.specs.Answers.{faultAt}
+use Rattle.answers.specs.Printed.{digits, decimalOf, tabbed, lineWith, faultLine, faultLines, refusedLine, printed}
+use Rattle.messages.specs.Messages.{Pushes}
+use Rattle.messages.proofs.Pushed.{pushed-whole}
 use Rattle.messages.proofs.Words.{length-said}
-use Rattle.found.proofs.Theorems.{faults-short}
+use Rattle.found.proofs.Theorems.{faults-short, faults-classless}
+use Rattle.printed.proofs.Cases.{by-answer}
 
 -- ---- lines
 digits-short : (k n : ℕ) → length (digits k n) ≤ k
@@ -65,39 +63,12 @@ message-short k x c =
     (longer (eqb k 13) _ _ m (omega (arith, length-said 5 x c))
     (longer (eqb k 14) _ _ m (omega (arith, length-said 6 x c)) (longer (eqb k 15) _ _ m (omega (arith, length-said 7 x c)) (omega arith))))))))
 
-abbrev Classed : Fault → Type 0
-Classed f = (f .kind ≡ 15) ⊎ (f .inClass ≡ noPart)
-
-fault-short : (f : Fault) → Classed f → length (f .name .bytes) ≤ 63 → length (f .inClass .bytes) ≤ 63 → length (messageOf f) ≤ 183
-fault-short f (inl k) h i = rw k (omega (arith, length-said 7 (f .name .bytes) (f .inClass .bytes)))
-fault-short f (inr e) h i = omega (arith, message-short (f .kind) (f .name .bytes) (f .inClass .bytes), ap (λ (p : Part). length (p .bytes)) e)
-
--- ---- only kind 15 has a class name
-classed-unless : (t : Bool) (f : Fault) → Classed f → All Classed (unless t f)
-classed-unless true f h = none
-classed-unless false f h = also h none
-
-classed-at : (bs : List Binding) (r : Role) (n : ℕ) (l : Line) (w : Where) → All Classed (judged bs r n l w)
-classed-at bs (isRead u) n l w = read-fault (All Classed) bs u n l w none (λ k p h. also (inr refl) none)
-classed-at bs isTarget n l w = none
-classed-at bs isRefused n l w = also (inr refl) none
-classed-at bs isDef n l w = none
-classed-at bs isClass n l w = none
-classed-at bs isLambda n l w = none
-classed-at bs isOther n l w = none
-classed-at bs (isFor m) n l w = none
-classed-at bs (isMethod c) n l w = classed-unless (not (lacksSelf (l .params))) (selfless n l c) (inl refl)
-
-classed-judge : (bs : List Binding) (vs : List Visited) → All Classed (judge bs vs)
-classed-judge bs [] = none
-classed-judge bs (v ∷ vs) = all-append (classed-at bs (v .role) (v .number) (v .line) (v .at)) (classed-judge bs vs)
-
-all-by-place : {P : Fault → Type 0} (n m : ℕ) {fs : List Fault} → All P fs → All P (byPlace n m fs)
-all-by-place n zero a = none
-all-by-place n (suc m) a = all-append (all-keep _ a) (all-by-place (suc n) m a)
-
-classed : (t : Tree) → All Classed (faults t)
-classed t = all-by-place (firstLine t) (lenSs (t .body)) (all-keep _ (classed-judge (bindings t) (visited t)))
+fault-short : (f : Fault) → ((f .kind ≡ 15 → ⊥) → f .inClass ≡ noPart) → length (f .name .bytes) ≤ 63 → length (f .inClass .bytes) ≤ 63 → length (messageOf f) ≤ 183
+fault-short f c h i = go (ℕ-discrete (f .kind) 15)
+  where
+    go : Dec (f .kind ≡ 15) → length (messageOf f) ≤ 183
+    go (yes k) = rw k (omega (arith, length-said 7 (f .name .bytes) (f .inClass .bytes)))
+    go (no k) = omega (arith, message-short (f .kind) (f .name .bytes) (f .inClass .bytes), ap (λ (p : Part). length (p .bytes)) (c k))
 
 -- ---- all lines
 line-short : (f : Fault) → length (messageOf f) ≤ 183 → length (faultLine f) ≤ 223
@@ -105,30 +76,24 @@ line-short f h =
     rw (length-line (bytes "fault") (decimalOf (f .kind) ∷ decimalOf (f .start) ∷ decimalOf (f .end) ∷ messageOf f ∷ []))
     (omega (arith, digits-short 10 (f .kind), digits-short 10 (f .start), digits-short 10 (f .end)))
 
-abbrev Short : List Fault → Type 0
-Short fs = (j : ℕ) (f : Fault) → faultAt fs j ≡ some f → (length (f .name .bytes) ≤ 63) × (length (f .inClass .bytes) ≤ 63)
+lines-short : (fs : List Fault) → ((j : ℕ) (f : Fault) → faultAt fs j ≡ some f → length (messageOf f) ≤ 183) → length (faultLines fs) ≤ 223 * length fs
+lines-short [] h = omega arith
+lines-short (f ∷ fs) h =
+    rw (length-append (faultLine f) (faultLines fs)) (omega (arith, line-short f (h 0 f refl), lines-short fs (λ j g e. h (suc j) g e)))
 
-lines-short : (fs : List Fault) → All Classed fs → Short fs → length (faultLines fs) ≤ 223 * length fs
-lines-short [] none h = omega arith
-lines-short (f ∷ fs) (also c r) h =
-    let s = h 0 f refl in
-    rw (length-append (faultLine f) (faultLines fs))
-    (omega (arith, line-short f (fault-short f c (s .0) (s .1)), lines-short fs r (λ j g e. h (suc j) g e)))
+pub room : (text : Bytes) → length (printed text) ≤ 524_288
+room text =
+    by-answer text (λ a b. length b ≤ 524_288) (λ k n. omega (arith, refused-short k n))
+    (λ t e few.
+    rw (length-append (faultLines (faults t)) (lineWith "faults" (decimalOf (length (faults t)) ∷ [])))
+    (omega (
+      arith,
+      number-line (bytes "faults") (length (faults t)),
+      lines-short (faults t) (λ j f at.
+          let s = faults-short text shortestWork t e j f at in
+          fault-short f (faults-classless text shortestWork t e j f at) (s .0) (s .1)),
+    )))
 
-module _ (text : Bytes) where
-  pub room : length (printed text) ≤ 524_288
-  room = go (reading text shortestWork) refl
-    where
-      listed : (t : Tree) (b : Bool) → reading text shortestWork ≡ tree t → ltb reportBuffer (recordLength * length (faults t)) ≡ b
-          → length (printed text) ≤ 524_288
-      listed t true e o =
-          let r : reported reportBuffer (faults t) ≡ refused 16 (length (faults t)) = rw (o, reported) in
-          rw (e, r) (omega (arith, refused-short 16 (length (faults t))))
-      listed t false e o =
-          let r : reported reportBuffer (faults t) ≡ written (records (faults t)) (length (faults t)) = rw (o, reported) in
-          rw (e, r, length-append (faultLines (faults t)) (lineWith "faults" (decimalOf (length (faults t)) ∷ [])))
-          (omega (arith, ltb-false reportBuffer (recordLength * length (faults t)) o, number-line (bytes "faults") (length (faults t)), lines-short (faults t) (classed t) (faults-short text shortestWork t e)))
-
-      go : (x : Reading) → reading text shortestWork ≡ x → length (printed text) ≤ 524_288
-      go (tree t) e = listed t (ltb reportBuffer (recordLength * length (faults t))) e refl
-      go (refusal k n) e = rw e (omega (arith, refused-short k n))
+-- so what is pushed to such a buffer is all of it
+pub print-whole : (text old out : List ℕ) (n : ℕ) → 524_288 ≤ length old → Pushes old 0 (printed text) out n → take n out ≡ printed text
+print-whole text old out n h p = rw (p .0, p .1) (pushed-whole old (printed text) (omega (arith, room text)))

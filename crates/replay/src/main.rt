@@ -13,8 +13,7 @@ use records::Record;
 use serduzhap::CheckResult;
 use serduzhap::MessageResult;
 use serduzhap::ReportResult;
-ghost use Prim.Native.Nat.{_+_, _≤_, _<_};
-ghost use lib.ListN.{length};
+ghost use Prim.Native.Nat.{_<_};
 
 fn say(bytes: &[u8]) {
     io::write_all(STDOUT_FILENO, bytes);
@@ -28,14 +27,6 @@ fn wide(n: u32) -> usize
     ensures { λ r. ⌜ r < 4294967296 ⌝ }
 {
     n as usize
-}
-
-fn fill(work: &mut [u32], value: u32) {
-    let mut i = 0;
-    while i < work.len() {
-        work[i] = value;
-        i += 1;
-    }
 }
 
 fn fill_bytes(out: &mut [u8], value: u8) {
@@ -85,7 +76,7 @@ fn say_record(r: Record) {
 }
 
 fn check(text: &[u8], work: &mut [u32], value: u32) {
-    fill(work, value);
+    frames::fill(work, value);
     say(b"check\t");
     match serduzhap::check(text, work) {
         CheckResult::Accepted => say(b"accepted\n"),
@@ -98,8 +89,8 @@ fn check(text: &[u8], work: &mut [u32], value: u32) {
 }
 
 fn report(text: &[u8], work: &mut [u32], out: &mut [u32], value: u32) {
-    fill(work, value);
-    fill(out, value);
+    frames::fill(work, value);
+    frames::fill(out, value);
     say(b"report\t");
     match serduzhap::report(text, work, out) {
         ReportResult::Written { count } => {
@@ -113,7 +104,7 @@ fn report(text: &[u8], work: &mut [u32], out: &mut [u32], value: u32) {
 
 // Writes the message of fault i to the output.
 fn message(text: &[u8], work: &mut [u32], i: usize, out: &mut [u8]) {
-    fill(work, 4294967295);
+    frames::fill(work, 4294967295);
     fill_bytes(out, 255);
     say(b"message\t");
     match serduzhap::message(text, work, i, out) {
@@ -131,7 +122,7 @@ fn message(text: &[u8], work: &mut [u32], i: usize, out: &mut [u8]) {
 }
 
 fn name(text: &[u8], work: &mut [u32], i: usize) {
-    fill(work, 4294967295);
+    frames::fill(work, 4294967295);
     say(b"name\t");
     let found = serduzhap::name(text, work, i);
     frames::put(found.len(), b"\t");

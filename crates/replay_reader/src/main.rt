@@ -42,7 +42,7 @@ fn show(work: &[u32], lines: usize) {
 
 // Reads a text and writes what came out.
 fn run(text: &[u8], work: &mut [u32], all_rows: bool) {
-    frames::fill(work);
+    frames::fill(work, 4294967295);
     match reader::read_tree(text, work) {
         Read::Tree { globals, lines } => {
             io::write_all(STDOUT_FILENO, b"tree\t");

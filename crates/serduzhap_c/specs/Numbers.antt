@@ -1,5 +1,4 @@
 -- The answers of the calls as numbers, for C: document 01's number of the refusal or fault, or 0; what goes with it; what is absent is 0.
-use Prim.Native.Nat.{ℕ}
 use lib.ListN.{length, getD}
 use Rattle.text.specs.Bytes.{Part}
 use Rattle.answers.specs.Answers.{CheckAnswer, accepted, faulty, ReportAnswer, written, MessageAnswer, wrote, noFault, tooLong}

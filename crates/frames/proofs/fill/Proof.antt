@@ -8,10 +8,10 @@ use Rattle.frames.proofs.fill.Statement.{statement}
 use Rattle.frames.proofs.fill.Tie as tie
 
 abbrev Inv-loop : tie.InvT-loop
-Inv-loop work₀ i₀ work i = (i ≤ length work) × (length work ≡ length work₀)
+Inv-loop work₀ value i₀ work i = (i ≤ length work) × (length work ≡ length work₀)
 
 abbrev μ-loop : tie.MeasureT-loop
-μ-loop work₀ i₀ work i = length work - i
+μ-loop work₀ value i₀ work i = length work - i
 
 loop-holds : tie.Need-loop-holds Inv-loop μ-loop
 loop-holds c = search needs

@@ -1,9 +1,10 @@
+-- Written: the lines of the records, and the count after them. Refused: one line. By what `report` answers, each is what is printed.
 use mathlib.Core.List.{[], _∷_}
 use borrow.Author.Needs.{needs}
 use Rattle.answers.specs.Printed.{decimalOf, lineWith}
 use Rattle.messages.proofs.Pushed.{push-more}
 use Rattle.output.specs.Lines.{recordLines}
-use Rattle.printed.proofs.Reported.{print-written, print-refused, print-few}
+use Rattle.printed.proofs.Reported.{print-written, print-refused}
 use Rattle.printed.proofs.print.Statement.{statement}
 use Rattle.printed.proofs.print.Tie as tie
 
@@ -18,8 +19,8 @@ push-faults-requires c κs =
     let k = c .before .before .before .before in
     let r = k .before .before in
     let a = r .before .before .before .before .before .args in
-    print-few (a .text .now) (a .work .now) (a .report .now) (r .before .before .report-arg .given .0 .1) (r .before .report-arg2 .given .0 .1)
-    (r .report .result) (r .report .last .1 .1 .0) (r .report .ensures) (k .count .given .0 .0) (k .count .given .1)
+    print-written (a .text .now) (a .work .now) (a .report .now) (r .before .before .report-arg .given .0 .1) (r .before .report-arg2 .given .0 .1)
+    (r .report .result) (r .report .last .1 .1 .0) (r .report .ensures) (k .count .given .0 .0) (k .count .given .1) .1
 
 push-count-requires : tie.Need-push-count-requires
 push-count-requires c κs = search needs
@@ -42,7 +43,7 @@ returns c =
     let a = r .before .before .before .before .before .args in
     let i = k .count .given .0 .0 in
     rw (← print-written (a .text .now) (a .work .now) (a .report .now) (r .before .before .report-arg .given .0 .1) (r .before .report-arg2 .given .0 .1)
-    (r .report .result) (r .report .last .1 .1 .0) (r .report .ensures) i (k .count .given .1))
+    (r .report .result) (r .report .last .1 .1 .0) (r .report .ensures) i (k .count .given .1) .0)
     (push-more (a .out .now) 0 (recordLines (a .text .now) (r .report .last .1 .1 .0) 0 i) (lineWith "faults" (decimalOf i ∷ [])) (p .push-faults .ensures) (n .push-count .ensures))
 
 same-length-2 : tie.Need-same-length-2
