@@ -9,7 +9,7 @@ use Rattle.text.specs.Bytes.{Bytes, Part}
 use Rattle.text.specs.Tree.{Tree}
 use Rattle.text.specs.Reading.{Reading, tree, refusal}
 use Rattle.faults.specs.Faults.{Fault, faults, records}
-use Rattle.answers.specs.Answers.{CheckAnswer, accepted, faulty, firstRecord, checkOf, ReportAnswer, written, reported, reportOf, reportOut, MessageAnswer, noFault, wroteIf, messageOr, messageIn, messageOut, faultAt, nameOf, nameIn, over}
+use Rattle.answers.specs.Answers.{accepted, faulty, firstRecord, checkOf, ReportAnswer, written, reported, reportOf, reportOut, MessageAnswer, noFault, wroteIf, messageOr, messageIn, messageOut, faultAt, nameOf, nameIn, over}
 use Rattle.names.specs.Chains.{partOf}
 use Rattle.records.specs.Records.{numbers}
 use Rattle.messages.specs.Messages.{messageOf}

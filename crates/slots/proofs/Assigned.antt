@@ -122,20 +122,6 @@ all-there {m = m} (also {a = n} w g) x r l s = ap₂ (λ t u. t && same x (n .na
     go (inl h) = le-leb (n .from) r (omega arith) ∙ sym (le-leb (n .from) m h)
     go (inr h) = lt-leb (n .from) r (omega arith) ∙ sym (lt-leb (n .from) m (omega arith))
 
--- none of a part's before its first row is passed
-module _ (x : Bytes) (r i : ℕ) (p : r ≤ i) where
-  pub late-t : (t : Expr) → assignedBy (notesT t i) x r ≡ false
-  late-t t = not-yet (range-t t i i (i + lenE t) (omega arith) (omega arith)) x r p
-
-  pub late-ts : (es : Exprs) → assignedBy (notesTs es i) x r ≡ false
-  late-ts es = not-yet (range-ts es i i (i + lenEs es) (omega arith) (omega arith)) x r p
-
-  pub late-s : (s : Stmt) → i + lenS s < never → assignedBy (notesS s i) x r ≡ false
-  late-s s n = not-yet (range-s s i i (i + lenS s) (omega arith) (omega arith) n) x r p
-
-  pub late-ss : (ss : Stmts) → i + lenSs ss < never → assignedBy (notesSs ss i) x r ≡ false
-  late-ss ss n = not-yet (range-ss ss i i (i + lenSs ss) (omega arith) (omega arith) n) x r p
-
 -- ---- from row i to row m, the notes ns add those of D to the names a
 pub record Assigns (ns : List Note) (a : List Part) (D : List Note) (i m : ℕ) : Type 0 where
   pub by : (x : Bytes) (r : ℕ) → i ≤ r → r ≤ m → assignedBy ns x r ≡ (mem x a || assignedBy D x r)
@@ -222,17 +208,8 @@ module _ (x : Bytes) where
 -- ---- a part and its parts, in rows up to m
 module _ {ns : List Note} {i m : ℕ} (n : m < never) where
   -- at its first row, and at a row after it
-  pub now-s : (s : Stmt) {a : List Part} → Assigns ns a (notesS s i) i m → i + lenS s ≤ m → (x : Bytes) → mem x a ≡ assignedBy ns x i
-  now-s s g p x = still g (range-s s i i m (omega arith) p n) x i (omega arith) (omega arith) (omega arith)
-
   pub now-ss : (ss : Stmts) {a : List Part} → Assigns ns a (notesSs ss i) i m → i + lenSs ss ≤ m → (x : Bytes) → mem x a ≡ assignedBy ns x i
   now-ss ss g p x = still g (range-ss ss i i m (omega arith) p n) x i (omega arith) (omega arith) (omega arith)
-
-  pub now-t : (t : Expr) {a : List Part} → Assigns ns a (notesT t i) i m → i + lenE t ≤ m → (x : Bytes) → mem x a ≡ assignedBy ns x i
-  now-t t g p x = still g (range-t t i i m (omega arith) p) x i (omega arith) (omega arith) (omega arith)
-
-  pub end-s : (s : Stmt) (st : State) → Assigns ns (st .assigned) (notesS s i) i m → (r : ℕ) → i + lenS s ≤ r → r ≤ m → (x : Bytes) → mem x (afterS s st .assigned) ≡ assignedBy ns x r
-  end-s s st g r p q x = after-s x s i r st p (omega arith) ∙ sym (g .by x r (omega arith) q)
 
   pub end-t : (t : Expr) (st : State) → Assigns ns (st .assigned) (notesT t i) i m → (r : ℕ) → i + lenE t ≤ r → r ≤ m → (x : Bytes) → mem x (afterT t st .assigned) ≡ assignedBy ns x r
   end-t t st g r p q x = after-t x t i r st p ∙ sym (g .by x r (omega arith) q)

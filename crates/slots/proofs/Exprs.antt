@@ -35,7 +35,7 @@ use Rattle.slots.specs.Notes.{Note, assignedBy}
 use Rattle.slots.specs.Slots.{slotsFrom, keys}
 use Rattle.slots.proofs.State.{At, Raised}
 use Rattle.slots.proofs.Held.{head-row, here-tail, here-left, here-past, row-kind, row-after, row-number, row-params, row-small, row-few, after-E}
-use Rattle.slots.proofs.Steps.{none-blamed, Stands, Step, open-on, step-both, step-below, step-quiet, stands-on, onward}
+use Rattle.slots.proofs.Steps.{none-blamed, Stands, Step, step-both, step-below, step-quiet, stands-on, onward}
 use Rattle.slots.proofs.Reading.{Under, flat, under, Around, CalledAs, asValue, asCallee, readAt, read-step}
 use Rattle.slots.proofs.Lambdas.{Bound, bound-opened, around-in, stands-in, step-out}
 pub use Rattle.slots.proofs.Steps.{Places}
@@ -239,23 +239,6 @@ pub record Walked (text : Bytes) (rows : List Row) (num : Bytes → ℕ) (ns : L
   pub kept : Kept w z
 
 module _ {text : Bytes} {rows : List Row} {num : Bytes → ℕ} {ns : List Note} (k r : ℕ) {s : ScopeStack} {v : Env} {st : State} {seen : List Fault} {w : List ℕ} where
-  -- the same at a later row, where nothing was walked between
-  pub at-on : (r′ : ℕ) → r ≤ r′ → (a : List Part) → (v .home ≡ inDef → (x : Bytes) → mem x a ≡ assignedBy ns x r′)
-      → At text rows num ns s [] v st seen w r → At text rows num ns s [] v (record { view = st .view; assigned = a }) seen w r′
-  at-on r′ l a e p = record {
-    table = p .table;
-    words = p .words;
-    home = p .home;
-    view = λ x j. open-on l (p .view x j);
-    params = λ x j. open-on l (p .params x j);
-    own = p .own;
-    locals = p .locals;
-    others = p .others;
-    assigned = e;
-    low = λ x j. omega (arith, p .low x j);
-    clean = λ i j h. p .clean i (omega arith) h;
-  }
-
   stands-at : At text rows num ns s [] v st seen w r → Places r seen → Stands text rows num ns s [] v st seen w r
   stands-at p q = record {
     table = p .table;

@@ -16,7 +16,7 @@ use Rattle.rows.specs.Layout.{rowsMost, kindAt, numberAt, offsetAt, sameAt}
 use Rattle.names.specs.Chains.{headAt, linkAt, walk, lookup}
 use Rattle.reader.specs.Rows.{Row, row, rowsE, rowsS}
 use Rattle.reader.specs.Laid.{noRow}
-use Rattle.reader.proofs.Lengths.{Sized, sized-e}
+use Rattle.reader.proofs.Lengths.{Sized}
 use Rattle.marks.specs.Marks.{linesBelow, afterRow}
 use Rattle.marks.proofs.Fields.{Kept, kept-kind, kept-number}
 use Rattle.again.specs.Again.{paramsOf, paramsAt}
@@ -57,17 +57,6 @@ module _ {rows : List Row} {i : ℕ} where
 
   pub here-first : {x : Row} {part : List Row} → Here rows i (x ∷ part) → i + suc (length part) ≤ length rows
   here-first {x} {part} h = let l = head-row h .0 in here-room {part = x ∷ part} (omega arith) h
-
-  pub room-E : (e : Expr) → Here rows i (rowsE e) → i + lenE e ≤ length rows
-  room-E e h = subst (λ k. i + k ≤ length rows) (sized-e e .count) (go e h)
-    where
-      go : (e : Expr) → Here rows i (rowsE e) → i + length (rowsE e) ≤ length rows
-      go (var l) h = here-first h
-      go (node l es) h = here-first h
-      go (access l es) h = here-first h
-      go (tuple l es) h = here-first h
-      go (call l f es) h = here-first h
-      go (lambda l e) h = here-first h
 
 -- ---- the row of a line
 module _ {text : Bytes} {rows : List Row} {num : Bytes → ℕ} {w : List ℕ} (t : Table text rows num w) {i : ℕ} {l : Line} {n : ℕ} {part : List Row} (h : Here rows i (row l n ∷ part)) where

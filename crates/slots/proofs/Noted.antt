@@ -34,14 +34,6 @@ module _ (b : ℕ) (w v : List ℕ) (p : Stamps b w v) (a : ℕ) (l : a < 4_096)
       go (inl s) = s
       go (inr s) = absurd (d (omega arith))
 
-  -- no stamp is one of a def after row m
-  pub stamp-low : (m : ℕ) → b + 1 ≤ m → stampAt w a / 8_192 ≤ m → stampAt v a / 8_192 ≤ m
-  stamp-low m s h = go (p a l)
-    where
-      go : (stampAt v a ≡ stampAt w a) ⊎ (stampAt v a / 8_192 ≡ b + 1) → stampAt v a / 8_192 ≤ m
-      go (inl e) = subst (λ k. k / 8_192 ≤ m) (sym e) h
-      go (inr e) = omega arith
-
 -- nothing else changes
 pub record Restamped (b : ℕ) (w v : List ℕ) : Type 0 where
   pub kept : Kept w v
@@ -90,12 +82,6 @@ fair-other num c ns w v old f = record {
 -- of a def that has no stamp yet, and of one that has all
 pub fair-new : {num : Bytes → ℕ} {c : ℕ} {ns : List Note} {w : List ℕ} → ((x : Bytes) → num x < 4_096 → stampAt w (num x) / 8_192 ≤ c) → Fair num w c ns
 fair-new old = record { own = λ x l e. absurd (omega (arith, old x l)); first = λ x l e. absurd (omega (arith, old x l)) }
-
-pub fair-stamped : {num : Bytes → ℕ} {c : ℕ} {ns : List Note} {w : List ℕ} → Stamped num w c ns → Fair num w c ns
-fair-stamped {num} {c} {ns} {w} f = record { own = λ x l e. own x l e; first = λ x l e. f .first x l (own x l e) }
-  where
-    own : (x : Bytes) → num x < 4_096 → stampAt w (num x) / 8_192 ≡ c + 1 → noteOf ns x ≡ true
-    own x l e = sym (f .own x l) ∙ eq-eqb (stampAt w (num x) / 8_192) (c + 1) e
 
 -- ---- one note
 -- the stamp of the name
