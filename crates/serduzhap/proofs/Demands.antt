@@ -1,24 +1,21 @@
 -- The demands, as theorems about the public calls, in terms of the definitions alone.
 -- `Checks`, `Reports` and `Messages` are what the calls promise (specs/Calls): they speak of the lengths of the buffers, and not of what the
 -- buffers held.
-use Prim.Native.Nat.{ℕ, _*_, _≤_}
-use native.Mathlib.Omega.{arith}
-use mathlib.Core.Path.{_≡_, refl, sym, ap, _∙_, subst}
+use Prim.Native.Nat.{ℕ, _≤_}
+use mathlib.Core.Path.{_≡_, sym, ap, _∙_, subst}
 use mathlib.Core.Logic.{_↔_}
-use mathlib.Core.Bool.{Bool, true, false, cond, true≢false}
+use mathlib.Core.Bool.{true, cond}
 use mathlib.Core.List.{List, [], _∷_}
-use lib.Dec.{ltb}
 use lib.ListN.{length, take, drop}
 use lib.Seq.{take-append-seam, drop-append-seam}
-use borrow.Author.Tests.{le-ltb}
 use Rattle.text.specs.Bytes.{Bytes}
 use Rattle.text.specs.Tree.{Tree}
 use Rattle.text.specs.Reading.{tree, reading}
 use Rattle.faults.specs.Faults.{Fault, is, keep, faults, isFault, ordered, recordLength, records, fullReport}
 use Rattle.faults.specs.Rust.{analyze-with-globals}
 use Rattle.faults.proofs.Theorems.{each-fault-once, in-order}
-use Rattle.answers.specs.Answers.{accepted, faulty, firstRecord, checkOf, over, ReportAnswer, written, reported, reportOf, report, reportOut, MessageAnswer, wrote, noFault, tooLong, message, messageOut}
-use Rattle.answers.proofs.Theorems.{records-length, Says, Words, rust-check, rust-message}
+use Rattle.answers.specs.Answers.{faulty, firstRecord, checkOf, over, ReportAnswer, written, reportOf, report, reportOut, MessageAnswer, wrote, noFault, tooLong, message, messageOut}
+use Rattle.answers.proofs.Theorems.{Says, Words, rust-check, rust-message}
 use Rattle.serduzhap.specs.Calls.{checkSays, Checks, reportSays, Reports, messageSays, Messages}
 use Rattle.serduzhap.specs.declared.CheckResult.{CheckResult}
 use Rattle.serduzhap.specs.declared.CheckResult.the-variants as C
@@ -26,29 +23,7 @@ use Rattle.serduzhap.specs.declared.ReportResult.{ReportResult}
 use Rattle.serduzhap.specs.declared.ReportResult.the-variants as R
 use Rattle.serduzhap.specs.declared.MessageResult.{MessageResult}
 use Rattle.serduzhap.specs.declared.MessageResult.the-variants as M
-
--- ---- what the proofs below need of the answers
-all-written : (t : Tree) (out : ℕ) → length (fullReport t) ≤ out → reported out (faults t) ≡ written (fullReport t) (length (faults t))
-all-written t out h =
-    go (ltb out (recordLength * length (faults t))) (le-ltb out (recordLength * length (faults t)) (subst (λ n. n ≤ out) (records-length (faults t)) h))
-  where
-    go : (b : Bool) → b ≡ false
-        → (elim b as (λ c. ReportAnswer) [ true ↦ ReportAnswer.refused 16 (length (faults t)) | false ↦ written (fullReport t) (length (faults t)) ])
-        ≡ written (fullReport t) (length (faults t))
-    go true e = absurd (true≢false e)
-    go false e = refl
-
-none-of : (fs : List Fault) → firstRecord fs ≡ accepted → fs ≡ []
-none-of [] e = refl
-none-of (f ∷ fs) e = let z : _≡_ {A = ℕ} 0 1 = cc in absurd (omega arith)
-
-accepts-none : (c : CheckResult) → checkSays c ≡ accepted → c ≡ C.Accepted
-accepts-none C.Accepted e = refl
-accepts-none (C.Faulty r) e = let z : _≡_ {A = ℕ} 0 1 = cc in absurd (omega arith)
-accepts-none (C.Refused k n) e = let z : _≡_ {A = ℕ} 0 1 = cc in absurd (omega arith)
-
-report-apart : (k n j : ℕ) → R.Refused k n ≡ R.Written j → ⊥
-report-apart k n j e = let z : _≡_ {A = ℕ} 0 1 = cc in omega arith
+use Rattle.serduzhap.proofs.Agreed.{all-written, none-of, accepts-none, report-apart}
 
 -- ==== Demand 3
 -- "Take any tree within the limits, [..] and whatever stood in the buffers before. [..] If the output buffer holds the full report, the call
