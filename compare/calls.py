@@ -13,37 +13,15 @@ the rest is unchanged.  Python 3, standard library only.
 
 import random
 import sys
-from pathlib import Path
 
 import document01
+from frames import Frames, files, summed
 
-ROOM = 262144                   # bytes that the program reads
 ONES = 4294967295
 WORK = 16384
 
 
-def summed(numbers):
-    total = 0
-    for number in numbers:
-        total = (total * 31 + number) % 4294967296
-    return total
-
-
-class Calls:
-    def __init__(self):
-        self.frames, self.answers, self.text = [], [], b''
-
-    def frame(self, letter, a, b, data=b''):
-        self.frames.append(letter + a.to_bytes(4, 'little') + b.to_bytes(4, 'little') + data)
-
-    def take(self, text):
-        self.text = text
-        self.frame(b't', 0, len(text), text)
-
-    def repeat(self, times, data):
-        self.text += times * data
-        self.frame(b'r', times, len(data), data)
-
+class Calls(Frames):
     def check(self, work, value):
         self.frame(b'c', work, value)
         answer = document01.check(self.text, work)
@@ -154,24 +132,8 @@ def made():
             if k % 4 == 0:
                 calls.take(document01.damaged(rng, text))
                 calls.few_calls(rng)
-    frames = b''.join(calls.frames)
-    assert len(frames) <= ROOM, len(frames)
-    return frames, b''.join(calls.answers), len(calls.answers)
-
-
-def main(arguments):
-    frames, answers, count = made()
-    folder = Path(arguments[-1])
-    if arguments[0] == 'check':
-        same = ((folder / 'stdin').read_bytes() == frames
-                and (folder / 'stdout').read_bytes() == answers)
-        print('%d calls: the files are %s' % (count, 'these' if same else 'OTHERS'))
-        return 0 if same else 1
-    (folder / 'stdin').write_bytes(frames)
-    (folder / 'stdout').write_bytes(answers)
-    print('%d calls, %d bytes of frames, %d bytes of answers' % (count, len(frames), len(answers)))
-    return 0
+    return calls.made()
 
 
 if __name__ == '__main__':
-    sys.exit(main(sys.argv[1:]))
+    sys.exit(files(sys.argv[1:], 'calls', *made()))

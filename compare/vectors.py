@@ -13,14 +13,13 @@ definition with the reader.  Python 3, standard library only.
 import random
 import string
 import sys
-from pathlib import Path
 
 import document01
+from frames import Frames, files, summed
 
 WORDS = ('tree global break continue pass def assign if elif while for return expr '
          'class method attr lit var un bin index call get list tuple set treeset '
          'dict lambda').split()
-ROOM = 262144                           # bytes that the program reads
 CHANGED = b'\t\n09aZ_\x00\xff'       # what a byte is changed to
 
 
@@ -49,33 +48,14 @@ def answer(text, work, all_rows):
     if isinstance(tree, tuple):
         return b'refused\t%d\t%d\n' % tree[1:]
     found = rows(tree, text)
-    total = 0
-    for row in found:
-        for number in row:
-            total = (total * 31 + number) % 4294967296
+    total = summed(number for row in found for number in row)
     lines = [b'tree\t%d\t%d\t%d\n' % (tree.counts[0], len(found), total)]
     if all_rows:
         lines += [b'%d\t%d\t%d\t%d\n' % row for row in found]
     return b''.join(lines)
 
 
-class Frames:
-    def __init__(self):
-        self.frames = []
-        self.answers = []
-        self.text = b''
-
-    def frame(self, letter, a, b, more=b''):
-        self.frames.append(letter + a.to_bytes(4, 'little') + b.to_bytes(4, 'little') + more)
-
-    def take(self, text):
-        self.text = text
-        self.frame(b't', 0, len(text), text)
-
-    def repeat(self, times, chunk):
-        self.text += times * chunk
-        self.frame(b'r', times, len(chunk), chunk)
-
+class Texts(Frames):
     def whole(self, work=document01.WORK_MIN):
         self.frame(b'w', work, 0)
         self.answers.append(answer(self.text, work, True))
@@ -137,7 +117,7 @@ def edges():
 
 def longest(extra):
     """Frames for a tree text of 65,536 bytes and some more."""
-    found = Frames()
+    found = Texts()
     found.take(b'tree\t0\t4096\n')
     found.repeat(4094, b'pass\t1000\t10001\n')
     found.repeat(1, b'pass\t0\t1\n')
@@ -146,7 +126,7 @@ def longest(extra):
 
 
 def made():
-    all_ = Frames()
+    all_ = Texts()
 
     def add(part):
         all_.frames += part.frames
@@ -207,25 +187,8 @@ def made():
         for _ in range(6):
             all_.take(document01.damaged(rng, text))
             all_.whole()
-    frames = b''.join(all_.frames)
-    assert len(frames) <= ROOM
-    return frames, b''.join(all_.answers), len(all_.answers)
-
-
-def main(arguments):
-    frames, answers, count = made()
-    check = arguments[0] == 'check'
-    folder = Path(arguments[-1])
-    if check:
-        same = ((folder / 'stdin').read_bytes() == frames
-                and (folder / 'stdout').read_bytes() == answers)
-        print('%d texts: the files are %s' % (count, 'these' if same else 'OTHERS'))
-        return 0 if same else 1
-    (folder / 'stdin').write_bytes(frames)
-    (folder / 'stdout').write_bytes(answers)
-    print('%d texts, %d bytes of frames, %d bytes of answers' % (count, len(frames), len(answers)))
-    return 0
+    return all_.made()
 
 
 if __name__ == '__main__':
-    sys.exit(main(sys.argv[1:]))
+    sys.exit(files(sys.argv[1:], 'texts', *made()))
