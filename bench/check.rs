@@ -4,69 +4,28 @@
 
 use std::hint::black_box;
 
-mod builtins;
-mod parser {
-    pub mod ast;
-}
-mod semantic;
+#[path = "../oracle/library.rs"]
+mod library;
+#[path = "../oracle/numbers.rs"]
+mod numbers;
 #[macro_use]
 mod timing;
-mod tree;
-mod types;
 
-use timing::{best, Numbers};
+use library::{check, serduzhap_check, Check};
+use numbers::Numbers;
+use original::text_tree::{self, Tree};
+use timing::best;
 
-mod vm {
-    pub mod type_def {
-        #[derive(Debug, Clone, Copy, PartialEq)]
-        pub enum Arity {
-            Exact(usize),
-            Range(usize, usize),
-            Variadic,
-        }
-
-        impl Arity {
-            pub fn check(&self, _got: usize) -> bool {
-                true
-            }
-
-            pub fn description(&self) -> String {
-                String::new()
-            }
-        }
-    }
-}
-
-#[repr(C)]
-struct CheckNumbers {
-    number: usize,
-    line: usize,
-    start: u32,
-    end: u32,
-    name: usize,
-    name_len: usize,
-    class: usize,
-    class_len: usize,
-}
-
-extern "C" {
-    fn serduzhap_check(text: *const u8, text_len: usize, work: *mut u32, work_len: usize) -> CheckNumbers;
-}
-
-fn check(text: &[u8], work: &mut [u32]) -> CheckNumbers {
-    unsafe { serduzhap_check(text.as_ptr(), text.len(), work.as_mut_ptr(), work.len()) }
-}
-
-fn pass(tree: &tree::Tree) -> bool {
-    semantic::analyze_with_globals(&tree.body, &tree.globals).is_ok()
+fn pass(tree: &Tree) -> bool {
+    original::first_error(&tree.globals, &tree.body).is_none()
 }
 
 fn compare(title: &str, text: &[u8], calls: u32) {
     let mut work = vec![u32::MAX; 16384];
-    let ready = tree::parse(text).unwrap_or_else(|at| panic!("{title}: refused {} at {}", at.number, at.line));
+    let ready = text_tree::parse(text).unwrap_or_else(|at| panic!("{title}: refused {} at {}", at.number, at.line));
     assert_eq!(check(text, &mut work).number == 0, pass(&ready), "{title}");
     let ours = best(calls, || check(black_box(text), &mut work).number) / 1000.0;
-    let both = best(calls, || tree::parse(black_box(text)).map_or(0, |tree| usize::from(pass(&tree)))) / 1000.0;
+    let both = best(calls, || text_tree::parse(black_box(text)).map_or(0, |tree| usize::from(pass(&tree)))) / 1000.0;
     let alone = best(calls, || usize::from(pass(black_box(&ready)))) / 1000.0;
     println!(
         "{title:<36} {:>6} bytes {:>5} lines | check {ours:>8.1} µs | parse and pass {both:>8.1} µs, {:>4.1} times | pass alone {alone:>8.1} µs, {:>4.1} times",
@@ -176,7 +135,7 @@ impl Script {
 }
 
 fn script(lines: usize) -> Vec<u8> {
-    let mut made = Script { rng: Numbers(88172645463325252), at: 100, lines: Vec::new() };
+    let mut made = Script { rng: Numbers::new(1), at: 100, lines: Vec::new() };
     let (mut statements, mut steps) = (0, 0);
     while made.lines.len() + 50 < lines {
         steps += 1;
@@ -216,8 +175,8 @@ fn main() {
     let mut work = vec![0; 16384];
     println!(
         "stack: {} bytes for the script of 3,000 lines, {} and {} at depth 64 (functions, lambdas)",
-        stack_used!(serduzhap_check, CheckNumbers, &script(3000), &mut work),
-        stack_used!(serduzhap_check, CheckNumbers, deep.as_bytes(), &mut work),
-        stack_used!(serduzhap_check, CheckNumbers, lambdas.as_bytes(), &mut work)
+        stack_used!(serduzhap_check, Check, &script(3000), &mut work),
+        stack_used!(serduzhap_check, Check, deep.as_bytes(), &mut work),
+        stack_used!(serduzhap_check, Check, lambdas.as_bytes(), &mut work)
     );
 }

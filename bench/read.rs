@@ -4,15 +4,14 @@
 
 use std::hint::black_box;
 
-mod parser {
-    pub mod ast;
-}
+#[path = "../oracle/numbers.rs"]
+mod numbers;
 #[macro_use]
 mod timing;
-mod tree;
-mod types;
 
-use timing::{best, Numbers};
+use numbers::Numbers;
+use original::text_tree;
+use timing::best;
 
 #[repr(C)]
 struct ReadNumbers {
@@ -33,13 +32,13 @@ fn read(text: &[u8], work: &mut [u32]) -> ReadNumbers {
 fn compare(title: &str, text: &[u8], calls: u32) {
     let mut work = vec![u32::MAX; 16384];
     let numbers = read(text, &mut work);
-    let tree = tree::parse(text);
+    let tree = text_tree::parse(text);
     match &tree {
         Ok(tree) => assert_eq!((numbers.refusal, numbers.lines, numbers.globals), (0, tree.lines, tree.globals.len()), "{title}"),
         Err(at) => assert_eq!((numbers.refusal, numbers.line), (at.number, at.line), "{title}"),
     }
     let ours = best(calls, || read(black_box(text), &mut work).lines);
-    let theirs = best(calls, || tree::parse(black_box(text)).map_or(0, |tree| tree.lines));
+    let theirs = best(calls, || text_tree::parse(black_box(text)).map_or(0, |tree| tree.lines));
     let bytes = text.len() as f64;
     println!(
         "{title:<34} {:>6} bytes {:>5} lines | {:>6.2} ns a byte {:>6.1} µs | boxed {:>6.2} ns a byte | {:.1} times faster",
@@ -57,7 +56,7 @@ const NAMES: [&str; 15] =
 
 /// A real-looking script: assignments, calls and branches over some sixty names.
 fn script(lines: usize) -> Vec<u8> {
-    let mut rng = Numbers(88172645463325252);
+    let mut rng = Numbers::new(1);
     let mut at = 90000;
     let mut body: Vec<String> = Vec::new();
     let mut statements = 0;

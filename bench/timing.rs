@@ -1,4 +1,4 @@
-//! What the two benchmarks share: the best of several runs, numbers that are the same in every run, and the stack that a call takes.
+//! What the two benchmarks share: the best of several runs, and the stack that a call takes.
 
 use std::hint::black_box;
 use std::time::Instant;
@@ -14,18 +14,6 @@ pub fn best(calls: u32, mut call: impl FnMut() -> usize) -> f64 {
         least = least.min(start.elapsed().as_nanos() as f64 / f64::from(calls));
     }
     least
-}
-
-/// A small generator of numbers, so that every run times the same texts.
-pub struct Numbers(pub u64);
-
-impl Numbers {
-    pub fn below(&mut self, n: usize) -> usize {
-        self.0 ^= self.0 << 13;
-        self.0 ^= self.0 >> 7;
-        self.0 ^= self.0 << 17;
-        (self.0 % n as u64) as usize
-    }
 }
 
 /// The bytes of stack that one call over a text and a work buffer touches: it runs on a stack of its own, filled with a pattern before.

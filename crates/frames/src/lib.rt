@@ -1,4 +1,4 @@
-// What the replay programs share: frames of numbers and bytes from standard input, buffers filled and copied, and sums.
+// What the replay programs share: frames of numbers and bytes from standard input, buffers filled and copied, sums, and lines written.
 use libc::STDOUT_FILENO;
 ghost use Prim.Native.Nat.{_≤_, _<_};
 ghost use lib.ListN.{length};
@@ -9,16 +9,22 @@ pub struct Step {
     pub len: usize,
 }
 
-fn wide(b: u8) -> usize
+fn of_byte(b: u8) -> usize
     ensures { λ r. ⌜ r < 256 ⌝ }
 {
     b as usize
 }
 
+pub fn wide(n: u32) -> usize
+    ensures { λ r. ⌜ r < 4294967296 ⌝ }
+{
+    n as usize
+}
+
 pub fn byte_at(all: &[u8], at: usize) -> usize
     ensures { λ r. ⌜ r < 256 ⌝ }
 {
-    if at < all.len() { wide(all[at]) } else { 0 }
+    if at < all.len() { of_byte(all[at]) } else { 0 }
 }
 
 // The number in the four bytes at an offset.
@@ -82,9 +88,13 @@ pub fn fill(work: &mut [u32], value: u32) {
     }
 }
 
+pub fn say(bytes: &[u8]) {
+    io::write_all(STDOUT_FILENO, bytes);
+}
+
 pub fn put(n: usize, after: &[u8]) {
     io::print_decimal(STDOUT_FILENO, n as u64);
-    io::write_all(STDOUT_FILENO, after);
+    say(after);
 }
 
 // One number more in a sum of 32 bits.

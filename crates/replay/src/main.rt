@@ -8,25 +8,14 @@
 //   m i k      message of fault i, to k bytes of output, all 255
 //   n i _      name of fault i
 use frames::Step;
-use libc::STDOUT_FILENO;
 use records::Record;
 use serduzhap::CheckResult;
 use serduzhap::MessageResult;
 use serduzhap::ReportResult;
 ghost use Prim.Native.Nat.{_<_};
 
-fn say(bytes: &[u8]) {
-    io::write_all(STDOUT_FILENO, bytes);
-}
-
 fn narrow(n: usize) -> u32 {
     (n % 4294967296) as u32
-}
-
-fn wide(n: u32) -> usize
-    ensures { λ r. ⌜ r < 4294967296 ⌝ }
-{
-    n as usize
 }
 
 fn fill_bytes(out: &mut [u8], value: u8) {
@@ -42,7 +31,7 @@ fn sum_of(numbers: &[u32]) -> usize {
     let mut sum: usize = 0;
     let mut i = 0;
     while i < numbers.len() {
-        sum = frames::summed(sum, wide(numbers[i]));
+        sum = frames::summed(sum, frames::wide(numbers[i]));
         i += 1;
     }
     sum
@@ -60,15 +49,15 @@ fn sum_of_bytes(bytes: &[u8]) -> usize {
 }
 
 fn say_refused(number: usize, line: usize) {
-    say(b"refused\t");
+    frames::say(b"refused\t");
     frames::put(number, b"\t");
     frames::put(line, b"\t");
 }
 
 fn say_record(r: Record) {
     frames::put(r.kind, b"\t");
-    frames::put(wide(r.start), b"\t");
-    frames::put(wide(r.end), b"\t");
+    frames::put(frames::wide(r.start), b"\t");
+    frames::put(frames::wide(r.end), b"\t");
     frames::put(r.name, b"\t");
     frames::put(r.name_len, b"\t");
     frames::put(r.class, b"\t");
@@ -77,13 +66,13 @@ fn say_record(r: Record) {
 
 fn check(text: &[u8], work: &mut [u32], value: u32) {
     frames::fill(work, value);
-    say(b"check\t");
+    frames::say(b"check\t");
     match serduzhap::check(text, work) {
-        CheckResult::Accepted => say(b"accepted\n"),
+        CheckResult::Accepted => frames::say(b"accepted\n"),
         CheckResult::Faulty { record } => say_record(record),
         CheckResult::Refused { number, line } => {
             say_refused(number, line);
-            say(b"\n");
+            frames::say(b"\n");
         }
     }
 }
@@ -91,10 +80,10 @@ fn check(text: &[u8], work: &mut [u32], value: u32) {
 fn report(text: &[u8], work: &mut [u32], out: &mut [u32], value: u32) {
     frames::fill(work, value);
     frames::fill(out, value);
-    say(b"report\t");
+    frames::say(b"report\t");
     match serduzhap::report(text, work, out) {
         ReportResult::Written { count } => {
-            say(b"written\t");
+            frames::say(b"written\t");
             frames::put(count, b"\t");
         }
         ReportResult::Refused { number, line } => say_refused(number, line),
@@ -106,28 +95,28 @@ fn report(text: &[u8], work: &mut [u32], out: &mut [u32], value: u32) {
 fn message(text: &[u8], work: &mut [u32], i: usize, out: &mut [u8]) {
     frames::fill(work, 4294967295);
     fill_bytes(out, 255);
-    say(b"message\t");
+    frames::say(b"message\t");
     match serduzhap::message(text, work, i, out) {
         MessageResult::Written { len } => {
-            say(b"written\t");
+            frames::say(b"written\t");
             frames::put(len, b"\t");
-            say(frames::first(out, len));
-            say(b"\t");
+            frames::say(frames::first(out, len));
+            frames::say(b"\t");
         }
         MessageResult::Refused { number, line } => say_refused(number, line),
-        MessageResult::NoFault => say(b"17\t"),
-        MessageResult::TooLong => say(b"18\t"),
+        MessageResult::NoFault => frames::say(b"17\t"),
+        MessageResult::TooLong => frames::say(b"18\t"),
     }
     frames::put(sum_of_bytes(out), b"\n");
 }
 
 fn name(text: &[u8], work: &mut [u32], i: usize) {
     frames::fill(work, 4294967295);
-    say(b"name\t");
+    frames::say(b"name\t");
     let found = serduzhap::name(text, work, i);
     frames::put(found.len(), b"\t");
-    say(found);
-    say(b"\n");
+    frames::say(found);
+    frames::say(b"\n");
 }
 
 // Runs the call of a letter.

@@ -7,7 +7,6 @@
 //   b i v      the text with the byte v at i
 // The work buffer is filled with 4,294,967,295 before each.
 use frames::Step;
-use libc::STDOUT_FILENO;
 use reader::Read;
 ghost use Prim.Native.Nat.{_+_, _≤_, _<_};
 ghost use lib.ListN.{length};
@@ -45,7 +44,7 @@ fn run(text: &[u8], work: &mut [u32], all_rows: bool) {
     frames::fill(work, 4294967295);
     match reader::read_tree(text, work) {
         Read::Tree { globals, lines } => {
-            io::write_all(STDOUT_FILENO, b"tree\t");
+            frames::say(b"tree\t");
             frames::put(globals, b"\t");
             frames::put(lines, b"\t");
             frames::put(sum_of(work, lines), b"\n");
@@ -54,7 +53,7 @@ fn run(text: &[u8], work: &mut [u32], all_rows: bool) {
             }
         }
         Read::Refused { number, line } => {
-            io::write_all(STDOUT_FILENO, b"refused\t");
+            frames::say(b"refused\t");
             frames::put(number, b"\t");
             frames::put(line, b"\n");
         }

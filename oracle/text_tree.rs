@@ -1,17 +1,21 @@
-//! A plain Rust parser of the tree text into the trees of the Rust original, as a maker would write it.
+//! A plain Rust parser of the tree text into the trees of the Rust original, with document 01's refusals 1 and 3 to 7.
 
 use crate::parser::ast::{BinaryOp, Expr, ExprS, Literal, MethodDef, Stmt, StmtS, UnaryOp};
 use crate::types::Span;
 
+#[derive(Debug, PartialEq)]
 pub struct Refusal {
     pub number: usize,
     pub line: usize,
 }
 
+/// A tree: names that are bound before the script, its statements, how many lines follow the first, and how deep the deepest stands.
+#[derive(Debug, Clone, PartialEq)]
 pub struct Tree {
     pub globals: Vec<String>,
     pub body: Vec<StmtS>,
     pub lines: usize,
+    pub depth: usize,
 }
 
 #[derive(Clone, Copy, PartialEq)]
@@ -72,6 +76,7 @@ struct Reader<'a> {
     text: &'a str,
     at: usize,
     line: usize,
+    depth: usize,
 }
 
 type Read<T> = Result<T, Refusal>;
@@ -127,6 +132,7 @@ impl<'a> Reader<'a> {
         }
         self.at += end + 1;
         self.line += 1;
+        self.depth = self.depth.max(depth);
         Ok(line)
     }
 
@@ -216,8 +222,9 @@ pub fn parse(text: &[u8]) -> Read<Tree> {
     if text.len() > 65536 {
         return Err(Refusal { number: 1, line: 0 });
     }
-    let Ok(text) = std::str::from_utf8(text) else { return Err(Refusal { number: 5, line: 0 }) };
-    let mut reader = Reader { text, at: 0, line: 1 };
+    // what is no UTF-8 becomes a character that stands in no field; tabs and line ends stay
+    let text = String::from_utf8_lossy(text);
+    let mut reader = Reader { text: &text, at: 0, line: 1, depth: 0 };
     let line = reader.due(Sort::Tree, 0)?;
     let globals = (0..line.counts[0])
         .map(|_| reader.due(Sort::Global, 1).map(|line| line.name.to_string()))
@@ -226,5 +233,5 @@ pub fn parse(text: &[u8]) -> Read<Tree> {
     if reader.at < text.len() {
         return reader.refuse(4);
     }
-    Ok(Tree { globals, body, lines: reader.line - 2 })
+    Ok(Tree { globals, body, lines: reader.line - 2, depth: reader.depth })
 }

@@ -1,0 +1,37 @@
+//! A small generator of numbers from a seed, so that every run makes the same trees.
+
+pub struct Numbers(u64);
+
+impl Numbers {
+    /// From any seed, 0 too: neighbouring seeds give unlike numbers.
+    pub fn new(seed: u64) -> Self {
+        let mixed = (seed ^ 0x9e37_79b9_7f4a_7c15).wrapping_mul(0xbf58_476d_1ce4_e5b9);
+        Numbers((mixed ^ (mixed >> 31)) | 1)
+    }
+
+    pub fn next(&mut self) -> u64 {
+        self.0 ^= self.0 << 13;
+        self.0 ^= self.0 >> 7;
+        self.0 ^= self.0 << 17;
+        self.0.wrapping_mul(0x2545_f491_4f6c_dd1d)
+    }
+
+    pub fn below(&mut self, n: usize) -> usize {
+        ((self.next() >> 32) * n as u64 >> 32) as usize
+    }
+
+    /// Once in n times.
+    pub fn one_in(&mut self, n: usize) -> bool {
+        self.below(n) == 0
+    }
+
+    pub fn pick<T: Copy>(&mut self, from: &[T]) -> T {
+        from[self.below(from.len())]
+    }
+
+    /// A place in a list of weights, as often as its weight says.
+    pub fn weighted(&mut self, weights: &[usize]) -> usize {
+        let mut left = self.below(weights.iter().sum());
+        weights.iter().position(|&weight| if left < weight { true } else { left -= weight; false }).unwrap()
+    }
+}
