@@ -139,10 +139,16 @@ pub fn stage(text: &[u8], tree: &Tree, faults: &[Place], buffers: &mut Buffers, 
     if (check.number, check.start, check.end) != (kind, span.start, span.end) {
         return Err(format!("{message} at {span:?}, and {check:?}"));
     }
-    let captures = if kind == 10 || kind == 13 { faults.iter().take_while(|f| f.kind == kind && f.span == span).count() } else { 1 };
+    let captures = captures(faults);
     tally.sets += u64::from(captures > 1);
     let named = (0..captures).find(|&i| buffers.message(text, i) == message);
     named.map(Some).ok_or_else(|| format!("{message}, and {}", buffers.message(text, 0)))
+}
+
+/// How many of the faults the original may name first: the captures of one lambda, or one.
+pub fn captures(faults: &[Place]) -> usize {
+    let same = |fault: &&Place| matches!(fault.kind, 10 | 13) && (fault.kind, fault.span) == (faults[0].kind, faults[0].span);
+    faults.iter().take_while(same).count().max(1)
 }
 
 /// Takes away what the text does not hold: values, operators, and whether there is an `else` without statements.

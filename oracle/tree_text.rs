@@ -73,18 +73,14 @@ impl Writer {
 
     fn stmt(&mut self, (stmt, span): &StmtS) -> Written {
         match stmt {
-            Stmt::Break => self.spanned("break", span, &[], &[], &[]),
-            Stmt::Continue => self.spanned("continue", span, &[], &[], &[]),
-            Stmt::Pass => self.spanned("pass", span, &[], &[], &[]),
+            Stmt::Break => self.over("break", span, &[]),
+            Stmt::Continue => self.over("continue", span, &[]),
+            Stmt::Pass => self.over("pass", span, &[]),
             Stmt::Def { name, params, body } => {
                 self.spanned("def", span, &[name], &[body.len()], params)?;
                 self.stmts(body)
             }
-            Stmt::Assign { target, value } => {
-                self.spanned("assign", span, &[], &[], &[])?;
-                self.expr(value)?;
-                self.expr(target)
-            }
+            Stmt::Assign { target, value } => self.over("assign", span, &[value, target]),
             Stmt::If { condition, then_block, elif_blocks, else_block } => {
                 let else_block = else_block.as_deref().unwrap_or_default();
                 self.spanned("if", span, &[], &[then_block.len(), elif_blocks.len(), else_block.len()], &[])?;
@@ -107,14 +103,8 @@ impl Writer {
                 self.expr(iterable)?;
                 self.stmts(body)
             }
-            Stmt::Return(expr) => {
-                self.spanned("return", span, &[], &[], &[])?;
-                self.expr(expr)
-            }
-            Stmt::Expr(expr) => {
-                self.spanned("expr", span, &[], &[], &[])?;
-                self.expr(expr)
-            }
+            Stmt::Return(expr) => self.over("return", span, &[expr]),
+            Stmt::Expr(expr) => self.over("expr", span, &[expr]),
             Stmt::Class { name, methods, attributes } => {
                 self.spanned("class", span, &[name], &[methods.len(), attributes.len()], &[])?;
                 for MethodDef { name, params, body } in methods {
@@ -130,6 +120,12 @@ impl Writer {
         }
     }
 
+    /// A line with nothing but its span, and its children.
+    fn over(&mut self, word: &str, span: &Span, children: &[&ExprS]) -> Written {
+        self.spanned(word, span, &[], &[], &[])?;
+        children.iter().try_for_each(|child| self.expr(child))
+    }
+
     /// A line with a count and its children.
     fn several(&mut self, word: &str, span: &Span, exprs: &[ExprS]) -> Written {
         self.spanned(word, span, &[], &[exprs.len()], &[])?;
@@ -138,22 +134,11 @@ impl Writer {
 
     fn expr(&mut self, (expr, span): &ExprS) -> Written {
         match expr {
-            Expr::Literal(_) => self.spanned("lit", span, &[], &[], &[]),
+            Expr::Literal(_) => self.over("lit", span, &[]),
             Expr::Variable(name) => self.spanned("var", span, &[name], &[], &[]),
-            Expr::Unary { expr, .. } => {
-                self.spanned("un", span, &[], &[], &[])?;
-                self.expr(expr)
-            }
-            Expr::Binary { left, right, .. } => {
-                self.spanned("bin", span, &[], &[], &[])?;
-                self.expr(left)?;
-                self.expr(right)
-            }
-            Expr::Index { object, index } => {
-                self.spanned("index", span, &[], &[], &[])?;
-                self.expr(object)?;
-                self.expr(index)
-            }
+            Expr::Unary { expr, .. } => self.over("un", span, &[expr]),
+            Expr::Binary { left, right, .. } => self.over("bin", span, &[left, right]),
+            Expr::Index { object, index } => self.over("index", span, &[object, index]),
             Expr::Call { func_name, args } => {
                 self.spanned("call", span, &[], &[args.len()], &[])?;
                 self.expr(func_name)?;

@@ -4,7 +4,7 @@
 //! start, end and message of the original's first error, or `refused`, number and line, by the plain parser. Where a lambda captures
 //! several faulty names, the original names any of them: such trees are left out.
 
-use crate::compare::{kind_of, stage, Buffers, Tally};
+use crate::compare::{captures, kind_of, stage, Buffers, Tally};
 use crate::generate;
 use crate::numbers::Numbers;
 use crate::repair::repair;
@@ -64,18 +64,18 @@ pub fn write(folder: &str, seed: u64, buffers: &mut Buffers, tally: &mut Tally) 
                 break;
             };
             let mut faults = buffers.faults(text.as_bytes());
-            let Some(named) = stage(text.as_bytes(), &tree, &faults, buffers, tally)? else {
+            if stage(text.as_bytes(), &tree, &faults, buffers, tally)?.is_none() {
                 files.take(text.as_bytes());
                 break;
-            };
-            let several = faults.len() > 1 && matches!(faults[0].kind, 10 | 13) && faults[0].kind == faults[1].kind && faults[0].span == faults[1].span;
-            if !several {
+            }
+            if captures(&faults) == 1 {
                 files.take(text.as_bytes());
             }
             if faults.len() > 100 {
                 break;
             }
-            repair(&mut body, &[faults.swap_remove(named)]);
+            faults.truncate(1);
+            repair(&mut body, &faults);
         }
     }
     let folder = Path::new(folder);
