@@ -2,6 +2,7 @@
 
 use crate::parser::ast::{BinaryOp, Expr, ExprS, Literal, MethodDef, Stmt, StmtS, UnaryOp};
 use crate::types::Span;
+use std::borrow::Cow;
 
 #[derive(Debug, PartialEq)]
 pub struct Refusal {
@@ -223,7 +224,7 @@ pub fn parse(text: &[u8]) -> Read<Tree> {
         return Err(Refusal { number: 1, line: 0 });
     }
     // what is no UTF-8 becomes a character that stands in no field; tabs and line ends stay
-    let text = String::from_utf8_lossy(text);
+    let text = std::str::from_utf8(text).map_or_else(|_| String::from_utf8_lossy(text), Cow::Borrowed);
     let mut reader = Reader { text: &text, at: 0, line: 1, depth: 0 };
     let line = reader.due(Sort::Tree, 0)?;
     let globals = (0..line.counts[0])

@@ -49,7 +49,7 @@ RULES = [
 '''),
     ('a target is bound before the value', MOD, 'analyze_expr_module(value, scopes, ctx)?;',
      'if let Expr::Variable(n) = &target.0 { scopes.define(n.clone()); } analyze_expr_module(value, scopes, ctx)?;'),
-    ('a function is bound after its body', MOD, '''            scopes.define(name.clone());
+    ('a function\'s name is not bound in the module', MOD, '''            scopes.define(name.clone());
             ctx.functions''', '''            ctx.functions'''),
     ('what a function binds stays in view', MOD, '''    scopes.pop();
     // ''', '''    // '''),
@@ -119,7 +119,7 @@ LIBRARIES = [
     ('message writes a zero after its words', 'damaged', 'MESSAGE', 'if (a.number == 0 && a.len < o) out[a.len] = 0;'),
     ('message answers 18 before 17', 'damaged', 'MESSAGE', 'if (a.number == 17 && o == 0) a.number = 18;'),
     ('name reads a byte past the text', 'damaged', 'NAME', 'if (text[t] == 7) a.len++;'),
-    ('name writes to the text', 'damaged', 'NAME', 'if (t > 0) ((uint8_t *)text)[t - 1] = text[t - 1];'),
+    ('name writes to the text', 'damaged', 'NAME', 'if (t > 0) *(volatile uint8_t *)(text + t - 1) = text[t - 1];'),
     ('check writes past the work buffer', 'damaged', 'CHECK', 'work[n] = 0;'),
     ('a short work buffer is taken', 'damaged', 'CHECK', 'if (a.number == 2) a.number = 0;'),
 ]
