@@ -1,4 +1,5 @@
-//! All trees of few lines over one name, `a`. A method may have `self`, or `self` and `a`, as its parameters too.
+//! All trees of few lines over one name, `a`, or over the first few of `a`, `b` and `c`. A def, a method or a lambda has no parameter or one;
+//! a method may also have `self` before.
 
 use crate::generate::number;
 use crate::numbers::Numbers;
@@ -8,6 +9,7 @@ use original::types::Span;
 /// All parts of a tree, by the number of their lines.
 #[derive(Default)]
 struct Parts {
+    names: Vec<String>,
     exprs: Vec<Vec<ExprS>>,
     stmts: Vec<Vec<StmtS>>,
     elifs: Vec<Vec<(ExprS, Vec<StmtS>)>>,
@@ -15,9 +17,9 @@ struct Parts {
     attributes: Vec<Vec<(String, ExprS)>>,
 }
 
-/// Hands every tree of up to so many lines after the first to a comparison: with no global, and with `global a`, which is a line too.
-pub fn every(most: usize, mut compare: impl FnMut(&[String], Vec<StmtS>) -> Result<(), String>) -> Result<(), String> {
-    let mut parts = Parts::default();
+/// Hands every tree of up to so many lines after the first, over so many names, to a comparison: with no global, and with one, a line too.
+pub fn every(most: usize, names: usize, mut compare: impl FnMut(&[String], Vec<StmtS>) -> Result<(), String>) -> Result<(), String> {
+    let mut parts = Parts { names: ["a", "b", "c"].iter().take(names).map(|name| name.to_string()).collect(), ..Parts::default() };
     let (mut rng, mut result) = (Numbers::new(0), Ok(()));
     for lines in 0..=most {
         let mut hand = |globals: &[String], mut body: Vec<StmtS>| {
@@ -27,7 +29,9 @@ pub fn every(most: usize, mut compare: impl FnMut(&[String], Vec<StmtS>) -> Resu
             }
         };
         if lines > 0 {
-            each_list(&parts.stmts, lines - 1, &mut |body| hand(&[a()], body));
+            for name in &parts.names {
+                each_list(&parts.stmts, lines - 1, &mut |body| hand(std::slice::from_ref(name), body));
+            }
         }
         each_list(&parts.stmts, lines, &mut |body| hand(&[], body));
         parts.each_stmt(lines, &mut |stmt| hand(&[], vec![stmt]));
@@ -36,10 +40,6 @@ pub fn every(most: usize, mut compare: impl FnMut(&[String], Vec<StmtS>) -> Resu
         }
     }
     result
-}
-
-fn a() -> String {
-    "a".to_string()
 }
 
 fn spanned<T>(part: T) -> (T, Span) {
@@ -63,6 +63,10 @@ fn each_list<T: Clone>(parts: &[Vec<T>], lines: usize, f: &mut dyn FnMut(Vec<T>)
     extend(parts, lines, &mut Vec::new(), f);
 }
 
+fn pairs<'a, A, B>(firsts: &'a [A], seconds: &'a [B]) -> impl Iterator<Item = (&'a A, &'a B)> {
+    firsts.iter().flat_map(move |first| seconds.iter().map(move |second| (first, second)))
+}
+
 /// Every expression with a body, of so many lines in all.
 fn each_head(parts: &Parts, lines: usize, f: &mut dyn FnMut(&ExprS, Vec<StmtS>)) {
     for head in 1..=lines {
@@ -73,6 +77,11 @@ fn each_head(parts: &Parts, lines: usize, f: &mut dyn FnMut(&ExprS, Vec<StmtS>))
 }
 
 impl Parts {
+    /// No parameter, or one of the names.
+    fn params(&self) -> Vec<Vec<String>> {
+        std::iter::once(vec![]).chain(self.names.iter().map(|name| vec![name.clone()])).collect()
+    }
+
     /// Adds all parts of so many lines; those of fewer are there.
     fn grow(&mut self, lines: usize) {
         let (mut exprs, mut stmts, mut elifs, mut methods, mut attributes) = (vec![], vec![], vec![], vec![], vec![]);
@@ -81,11 +90,13 @@ impl Parts {
             self.each_stmt(lines, &mut |stmt| stmts.push(stmt));
             each_head(self, lines - 1, &mut |condition, body| elifs.push((condition.clone(), body)));
             each_list(&self.stmts, lines - 1, &mut |body| {
-                for params in [vec![], vec![a()], vec!["self".to_string()], vec!["self".to_string(), a()]] {
-                    methods.push(MethodDef { name: a(), params, body: body.clone() });
+                for (name, params) in pairs(&self.names, &self.params()) {
+                    let with_self = std::iter::once("self".to_string()).chain(params.clone()).collect();
+                    methods.push(MethodDef { name: name.clone(), params: params.clone(), body: body.clone() });
+                    methods.push(MethodDef { name: name.clone(), params: with_self, body: body.clone() });
                 }
             });
-            attributes.extend(self.exprs[lines - 1].iter().map(|value| (a(), value.clone())));
+            attributes.extend(pairs(&self.names, &self.exprs[lines - 1]).map(|(name, value)| (name.clone(), value.clone())));
         }
         self.exprs.push(exprs);
         self.stmts.push(stmts);
@@ -97,15 +108,14 @@ impl Parts {
     fn each_expr(&self, lines: usize, f: &mut dyn FnMut(ExprS)) {
         if lines == 1 {
             f(spanned(Expr::Literal(Literal::None)));
-            f(spanned(Expr::Variable(a())));
+            self.names.iter().for_each(|name| f(spanned(Expr::Variable(name.clone()))));
         }
         each_list(&self.exprs, lines - 1, &mut |list| {
             if let [only] = &list[..] {
                 let only = || Box::new(only.clone());
                 f(spanned(Expr::Unary { op: UnaryOp::Not, expr: only() }));
-                f(spanned(Expr::Attribute { object: only(), attr: a() }));
-                f(spanned(Expr::Lambda { params: vec![], body: only() }));
-                f(spanned(Expr::Lambda { params: vec![a()], body: only() }));
+                self.names.iter().for_each(|name| f(spanned(Expr::Attribute { object: only(), attr: name.clone() })));
+                self.params().into_iter().for_each(|params| f(spanned(Expr::Lambda { params, body: only() })));
             }
             if let [left, right] = &list[..] {
                 let (left, right) = (|| Box::new(left.clone()), || Box::new(right.clone()));
@@ -137,23 +147,28 @@ impl Parts {
             f(spanned(Stmt::Expr(value.clone())));
         }
         each_list(&self.stmts, lines - 1, &mut |body| {
-            f(spanned(Stmt::Def { name: a(), params: vec![], body: body.clone() }));
-            f(spanned(Stmt::Def { name: a(), params: vec![a()], body }));
+            for (name, params) in pairs(&self.names, &self.params()) {
+                f(spanned(Stmt::Def { name: name.clone(), params: params.clone(), body: body.clone() }));
+            }
         });
         for left in 1..lines.saturating_sub(1) {
-            for value in &self.exprs[left] {
-                self.exprs[lines - 1 - left].iter().for_each(|target| f(spanned(Stmt::Assign { target: target.clone(), value: value.clone() })));
+            for (value, target) in pairs(&self.exprs[left], &self.exprs[lines - 1 - left]) {
+                f(spanned(Stmt::Assign { target: target.clone(), value: value.clone() }));
             }
         }
         each_head(self, lines - 1, &mut |condition, body| {
-            f(spanned(Stmt::While { condition: condition.clone(), body: body.clone() }));
-            f(spanned(Stmt::For { var: a(), iterable: condition.clone(), body }));
+            for name in &self.names {
+                f(spanned(Stmt::For { var: name.clone(), iterable: condition.clone(), body: body.clone() }));
+            }
+            f(spanned(Stmt::While { condition: condition.clone(), body }));
         });
         self.each_if(lines, f);
         for left in 0..lines {
             each_list(&self.methods, left, &mut |methods| {
                 each_list(&self.attributes, lines - 1 - left, &mut |attributes| {
-                    f(spanned(Stmt::Class { name: a(), methods: methods.clone(), attributes }));
+                    for name in &self.names {
+                        f(spanned(Stmt::Class { name: name.clone(), methods: methods.clone(), attributes: attributes.clone() }));
+                    }
                 });
             });
         }

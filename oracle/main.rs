@@ -1,7 +1,7 @@
 //! Runs trees and texts through the Rust original and through the library, and says whether they differ. oracle/run.sh builds and runs it.
 //!
 //!     trees COUNT SEED       random trees, each repaired fault by fault
-//!     every LINES            all trees of up to so many lines after the first, over one name
+//!     every LINES NAMES      all trees of up to so many lines after the first, over so many names, at most three
 //!     damaged COUNT SEED     damaged texts
 //!     vectors FOLDER SEED    writes answers of the original as files to replay
 //!     one < TEXT             the original's answer to a tree text
@@ -29,7 +29,9 @@ fn main() {
     let words: Vec<&str> = arguments.iter().map(String::as_str).collect();
     match words[..] {
         ["trees", count, seed] => ended(|buffers, tally| trees(number(count), number(seed), buffers, tally)),
-        ["every", lines] => ended(|buffers, tally| every::every(number(lines) as usize, |globals, body| compare::tree(globals, body, buffers, tally))),
+        ["every", lines, names] => ended(|buffers, tally| {
+            every::every(number(lines) as usize, number(names) as usize, |globals, body| compare::tree(globals, body, buffers, tally))
+        }),
         ["damaged", count, seed] => ended(|buffers, tally| damaged::texts(number(count), number(seed), buffers, tally)),
         ["vectors", folder, seed] => ended(|buffers, tally| vectors::write(folder, number(seed), buffers, tally)),
         ["one"] => one(),
@@ -38,7 +40,7 @@ fn main() {
 }
 
 fn usage() -> ! {
-    eprintln!("trees COUNT SEED | every LINES | damaged COUNT SEED | vectors FOLDER SEED | one < TEXT");
+    eprintln!("trees COUNT SEED | every LINES NAMES | damaged COUNT SEED | vectors FOLDER SEED | one < TEXT");
     exit(2)
 }
 
