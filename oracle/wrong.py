@@ -10,7 +10,7 @@ Each wrong copy is one edit; with it the comparison is built anew in target/wron
 and run until the first difference.  A wrong library is the built one behind a call
 that spoils its answer or its buffers.  Says for each which command noticed it, after
 how many trees or texts and in which time; exits with 1 if one was not noticed.
-Python 3, standard library only; needs rustc, cc and objcopy.
+Python 3, standard library only; needs rt, rustc, cc and objcopy.
 """
 
 import re
@@ -105,7 +105,7 @@ RULES = [
     ('globals are not bound', MOD, 'scopes.define(g.clone());', 'let _ = g;'),
 ]
 
-# what is wrong, and the C that stands before the library's call
+# what is wrong, the command that has to notice it, and the C that one of the calls below has beside the library's
 LIBRARIES = [
     ('check accepts everything', 'trees', 'CHECK', 'memset(&a, 0, sizeof a);'),
     ('check answers 3 to a text that is read', 'trees', 'CHECK', 'if (a.number == 0) a.number = 3, a.line = 1;'),
@@ -212,6 +212,7 @@ def noticed(command, count):
 
 def main(arguments):
     original, words = Path(arguments[0]).resolve(), ' '.join(arguments[1:])
+    subprocess.run(['rt', 'staticlib', 'serduzhap_c'], cwd=ROOT, check=True, stdout=subprocess.DEVNULL, stderr=subprocess.DEVNULL)
     library = ROOT / 'target' / 'staticlib'
     wrong = [(title, 'trees', lambda file=file, old=old, new=new: (edited(original, file, old, new), library))
              for title, file, old, new in RULES]
