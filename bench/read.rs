@@ -100,7 +100,7 @@ fn names(count: usize, name: impl Fn(usize) -> String) -> Vec<u8> {
     format!("tree\t{count}\t0\n{}", lines.concat()).into_bytes()
 }
 
-/// The hash of crate `cursor`, to make names that collide.
+/// The hash of crate `read_fields`, to make names that collide.
 fn hash(name: &str) -> usize {
     name.bytes().fold(0, |h, b| (h * 1597 + b as usize) % 4096)
 }

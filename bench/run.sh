@@ -3,9 +3,9 @@
 set -euo pipefail
 cd "$(dirname "$0")/.."
 rt staticlib serduzhap_c
-rt staticlib reader_c
+rt staticlib bench_reader
 bash oracle/build.sh "$1" target/original
-for pair in read:reader_c check:serduzhap_c; do
+for pair in read:bench_reader check:serduzhap_c; do
     rustc --edition 2021 -O "bench/${pair%:*}.rs" --extern original=target/original/liboriginal.rlib \
         -L target/staticlib -l static="${pair#*:}" -o "target/${pair%:*}-bench"
 done

@@ -2,7 +2,7 @@
 """Calls of check, report, message and name, and what they have to answer, worked
 out by document01.py.
 
-Writes two files: frames that the program `replay` takes on its standard input,
+Writes two files: frames that the program `test_calls` takes on its standard input,
 and the bytes that it has to write.  Every call finds its buffers filled, most of
 them with ones; a sum over the whole output buffer shows what was written and that
 the rest is unchanged.  Python 3, standard library only.

@@ -1,12 +1,12 @@
 #!/usr/bin/env python3
-"""Compare the definitions (specs/ of the crates text, faults and answers) with the
+"""Compare the definitions (specs/ of the crates spec_text, spec_faults and spec_answers) with the
 independent reading of document 01 in document01.py.
 
 Of each text: the reading or its refusal, the full report, places and reads, messages, the
 Rust walk's answer, the walk that lists everything; the answers of check, report, message
 and name, also where the output is too short; and what `namecheck` prints.  Tables
 `outcome text ≡ expected`, with the expectations of that reading, are written into a copy
-of the crates, and each is proved by refl with `rt dev answers` there.
+of the crates, and each is proved by refl with `rt dev spec_answers` there.
 
     definitions.py edges                  the small refusals, and the edge cases
     definitions.py random COUNT SEED      random trees, and damaged copies of them
@@ -27,7 +27,7 @@ from document01 import lines_of, names, nested
 
 ROOT = os.path.dirname(os.path.dirname(os.path.abspath(__file__)))
 COPY = tempfile.mkdtemp(prefix='definitions')
-FILE = os.path.join(COPY, 'crates/answers/proofs/Compare.antt')
+FILE = os.path.join(COPY, 'crates/spec_answers/proofs/Compare.antt')
 
 HEAD = '''-- Scratch: the definitions against the independent reading in Python.
 use Prim.Native.Nat.{ℕ}
@@ -35,14 +35,14 @@ use Prim.Native.String.{String}
 use mathlib.Core.Path.{_≡_, refl}
 use mathlib.Core.List.{List, [], _∷_, _++_, map}
 use mathlib.Core.Option.{Option, none, some}
-use Rattle.text.specs.Bytes.{Bytes, Part, bytes}
-use Rattle.text.specs.Tree.{Tree}
-use Rattle.text.specs.Reading.{Reading, tree, refusal, reading}
-use Rattle.faults.specs.Faults.{Fault, faults, fullReport, records, messageOf}
-use Rattle.faults.specs.Rust.{SemanticError, Checked, analyze-with-globals}
-use Rattle.faults.proofs.Walk.{walk}
-use Rattle.answers.specs.Answers.{CheckAnswer, accepted, faulty, ReportAnswer, written, MessageAnswer, wrote, noFault, tooLong, check, report, message, name}
-use Rattle.answers.specs.Printed.{printed}
+use Rattle.spec_text.specs.Bytes.{Bytes, Part, bytes}
+use Rattle.spec_text.specs.Tree.{Tree}
+use Rattle.spec_text.specs.Reading.{Reading, tree, refusal, reading}
+use Rattle.spec_faults.specs.Faults.{Fault, faults, fullReport, records, messageOf}
+use Rattle.spec_faults.specs.Rust.{SemanticError, Checked, analyze-with-globals}
+use Rattle.spec_faults.proofs.Walk.{walk}
+use Rattle.spec_answers.specs.Answers.{CheckAnswer, accepted, faulty, ReportAnswer, written, MessageAnswer, wrote, noFault, tooLong, check, report, message, name}
+use Rattle.spec_answers.specs.Printed.{printed}
 
 pub data Outcome : Type 0 where
   judged : List ℕ → List ℕ → List Bytes → Checked → List ℕ → List ℕ → Outcome
@@ -193,11 +193,11 @@ def run(batches, wrong=()):
     with open(FILE, 'w') as file:
         file.write(''.join(parts))
     start = time.time()
-    done = subprocess.run(['rt', 'dev', 'answers'], cwd=COPY, capture_output=True,
+    done = subprocess.run(['rt', 'dev', 'spec_answers'], cwd=COPY, capture_output=True,
                           text=True)
     output = done.stdout + done.stderr
     proved = any(line.startswith('logic=proved') for line in output.splitlines()[-1:])
-    if proved and not re.search(r'crate answers: modules loaded=\d+ checked=[1-9]', output):
+    if proved and not re.search(r'crate spec_answers: modules loaded=\d+ checked=[1-9]', output):
         raise SystemExit('nothing was checked: ' + output)
     return proved, output, time.time() - start
 
@@ -390,12 +390,12 @@ def random_texts(count, seed):
 
 def copy_crates():
     """The crates, with the comparison in place of the proofs of the topmost."""
-    for crate in ('text', 'faults', 'answers'):
+    for crate in ('spec_text', 'spec_faults', 'spec_answers'):
         shutil.copytree(os.path.join(ROOT, 'crates', crate), os.path.join(COPY, 'crates', crate))
     shutil.copy(os.path.join(ROOT, 'crates.txt'), COPY)
-    shutil.rmtree(os.path.join(COPY, 'crates/answers/proofs'))
-    os.mkdir(os.path.join(COPY, 'crates/answers/proofs'))
-    with open(os.path.join(COPY, 'crates/answers/proofs/Lib.antt'), 'w') as file:
+    shutil.rmtree(os.path.join(COPY, 'crates/spec_answers/proofs'))
+    os.mkdir(os.path.join(COPY, 'crates/spec_answers/proofs'))
+    with open(os.path.join(COPY, 'crates/spec_answers/proofs/Lib.antt'), 'w') as file:
         file.write('pub mod Compare\n')
 
 

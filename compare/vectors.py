@@ -1,7 +1,7 @@
 #!/usr/bin/env python3
 """Texts for the reader and what it has to answer, worked out by document01.py.
 
-Writes two files: frames that the program `replay_reader` takes on its standard
+Writes two files: frames that the program `test_reader` takes on its standard
 input, and the bytes that it has to write.  document01.py shares no code and no
 definition with the reader.  Python 3, standard library only.
 

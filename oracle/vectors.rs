@@ -1,4 +1,4 @@
-//! Answers of the Rust original in files that a program can replay where there is no Rust: crates/replay_original does so in the gate.
+//! Answers of the Rust original in files that a program can replay where there is no Rust: crates/test_original does so in the gate.
 //!
 //! `stdin` holds the texts, each after its length in four bytes, the low byte first. `stdout` holds a line for each: `accepted`, or kind,
 //! start, end and message of the original's first error, or `refused`, number and line, by the plain parser. Where a lambda captures

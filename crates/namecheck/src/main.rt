@@ -1,7 +1,7 @@
 // Checks the tree text on standard input and prints its faults: reads, and writes what the library printed.
 use libc::STDOUT_FILENO;
-use printed::REPORT;
-use printed::WORK;
+use print_answer::REPORT;
+use print_answer::WORK;
 
 // One byte more than the longest text tells that a text is too long.
 const TEXT: usize = 65537;
@@ -15,6 +15,6 @@ fn main() {
     let mut report = [0u32; REPORT];
     let mut out = [0u8; OUT];
     let n = io::read_full(0, &mut text);
-    let len = printed::print(&text[0..n], &mut work, &mut report, &mut out);
+    let len = print_answer::print(&text[0..n], &mut work, &mut report, &mut out);
     io::write_all(STDOUT_FILENO, &out[0..len]);
 }

@@ -8,10 +8,10 @@ use mathlib.Core.List.{List, [], _∷_}
 use lib.Dec.{ltb}
 use lib.ListN.{length}
 use borrow.Author.Tests.{le-ltb}
-use Rattle.text.specs.Tree.{Tree}
-use Rattle.faults.specs.Faults.{Fault, faults, recordLength, fullReport}
-use Rattle.answers.specs.Answers.{accepted, firstRecord, ReportAnswer, written, reported}
-use Rattle.answers.proofs.Theorems.{records-length}
+use Rattle.spec_text.specs.Tree.{Tree}
+use Rattle.spec_faults.specs.Faults.{Fault, faults, recordLength, fullReport}
+use Rattle.spec_answers.specs.Answers.{accepted, firstRecord, ReportAnswer, written, reported}
+use Rattle.spec_answers.proofs.Theorems.{records-length}
 use Rattle.serduzhap.specs.Calls.{checkSays}
 use Rattle.serduzhap.specs.declared.CheckResult.{CheckResult}
 use Rattle.serduzhap.specs.declared.CheckResult.the-variants as C

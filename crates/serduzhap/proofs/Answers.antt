@@ -5,17 +5,17 @@ use mathlib.Core.Path.{_≡_, refl, sym, ap, subst}
 use mathlib.Core.List.{List, [], _∷_}
 use lib.ListN.{length}
 use borrow.Author.Tests.{lt-ltb, le-ltb, le-leb}
-use Rattle.text.specs.Bytes.{Bytes, Part}
-use Rattle.text.specs.Tree.{Tree}
-use Rattle.text.specs.Reading.{Reading, tree, refusal}
-use Rattle.faults.specs.Faults.{Fault, faults, records}
-use Rattle.answers.specs.Answers.{accepted, faulty, firstRecord, checkOf, ReportAnswer, written, reported, reportOf, reportOut, MessageAnswer, noFault, wroteIf, messageOr, messageIn, messageOut, faultAt, nameOf, nameIn, over}
-use Rattle.names.specs.Chains.{partOf}
-use Rattle.records.specs.Records.{numbers}
-use Rattle.messages.specs.Messages.{messageOf}
-use Rattle.found.specs.declared.Answer.{Answer}
-use Rattle.found.specs.declared.Answer.the-variants as A
-use Rattle.found.specs.Found.{Finds, Kept, Listed}
+use Rattle.spec_text.specs.Bytes.{Bytes, Part}
+use Rattle.spec_text.specs.Tree.{Tree}
+use Rattle.spec_text.specs.Reading.{Reading, tree, refusal}
+use Rattle.spec_faults.specs.Faults.{Fault, faults, records}
+use Rattle.spec_answers.specs.Answers.{accepted, faulty, firstRecord, checkOf, ReportAnswer, written, reported, reportOf, reportOut, MessageAnswer, noFault, wroteIf, messageOr, messageIn, messageOut, faultAt, nameOf, nameIn, over}
+use Rattle.read_names.specs.Chains.{partOf}
+use Rattle.report_records.specs.Records.{numbers}
+use Rattle.report_messages.specs.Messages.{messageOf}
+use Rattle.find_faults.specs.declared.Answer.{Answer}
+use Rattle.find_faults.specs.declared.Answer.the-variants as A
+use Rattle.find_faults.specs.Found.{Finds, Kept, Listed}
 use Rattle.serduzhap.specs.Calls.{reportSays, messageSays, partSays, recordsOf}
 use Rattle.serduzhap.specs.declared.ReportResult.{ReportResult}
 use Rattle.serduzhap.specs.declared.ReportResult.the-variants as R

@@ -8,14 +8,14 @@ use mathlib.Core.Bool.{true, cond}
 use mathlib.Core.List.{List, [], _∷_}
 use lib.ListN.{length, take, drop}
 use lib.Seq.{take-append-seam, drop-append-seam}
-use Rattle.text.specs.Bytes.{Bytes}
-use Rattle.text.specs.Tree.{Tree}
-use Rattle.text.specs.Reading.{tree, reading}
-use Rattle.faults.specs.Faults.{Fault, is, keep, faults, isFault, ordered, recordLength, records, fullReport}
-use Rattle.faults.specs.Rust.{analyze-with-globals}
-use Rattle.faults.proofs.Theorems.{each-fault-once, in-order}
-use Rattle.answers.specs.Answers.{faulty, firstRecord, checkOf, over, ReportAnswer, written, reportOf, report, reportOut, MessageAnswer, wrote, noFault, tooLong, message, messageOut}
-use Rattle.answers.proofs.Theorems.{Says, Words, rust-check, rust-message}
+use Rattle.spec_text.specs.Bytes.{Bytes}
+use Rattle.spec_text.specs.Tree.{Tree}
+use Rattle.spec_text.specs.Reading.{tree, reading}
+use Rattle.spec_faults.specs.Faults.{Fault, is, keep, faults, isFault, ordered, recordLength, records, fullReport}
+use Rattle.spec_faults.specs.Rust.{analyze-with-globals}
+use Rattle.spec_faults.proofs.Theorems.{each-fault-once, in-order}
+use Rattle.spec_answers.specs.Answers.{faulty, firstRecord, checkOf, over, ReportAnswer, written, reportOf, report, reportOut, MessageAnswer, wrote, noFault, tooLong, message, messageOut}
+use Rattle.spec_answers.proofs.Theorems.{Says, Words, rust-check, rust-message}
 use Rattle.serduzhap.specs.Calls.{checkSays, Checks, reportSays, Reports, messageSays, Messages}
 use Rattle.serduzhap.specs.declared.CheckResult.{CheckResult}
 use Rattle.serduzhap.specs.declared.CheckResult.the-variants as C

@@ -7,16 +7,16 @@ use mathlib.Core.Bool.{Bool, true, false, cond}
 use mathlib.Core.List.{List, [], _∷_, _++_, nil≢cons}
 use lib.Dec.{eqb}
 use borrow.Author.Tests.{eqb-false}
-use Rattle.text.specs.Bytes.{Bytes}
-use Rattle.text.specs.Tree.{Line, Tree, lenSs, firstLine}
-use Rattle.text.specs.Reading.{tree, reading}
-use Rattle.faults.specs.Position.{Placed, Home, Where, Use, isRead, Visited, visited}
-use Rattle.faults.specs.Faults.{Binding, bindings, Fault, lambdaParam, own, assigned, inView, capture, judgeRead, judged, faultOf, judge, faults}
-use Rattle.faults.proofs.Lists.{All, none, also}
-use Rattle.faults.proofs.Walk.{once}
-use Rattle.faults.proofs.Once.{placed, byPlaceOnce, faults-once}
-use Rattle.faults.proofs.Places.{PlacedWithin, faults-within}
-use Rattle.answers.specs.Answers.{checkOf}
+use Rattle.spec_text.specs.Bytes.{Bytes}
+use Rattle.spec_text.specs.Tree.{Line, Tree, lenSs, firstLine}
+use Rattle.spec_text.specs.Reading.{tree, reading}
+use Rattle.spec_faults.specs.Position.{Placed, Home, Where, Use, isRead, Visited, visited}
+use Rattle.spec_faults.specs.Faults.{Binding, bindings, Fault, lambdaParam, own, assigned, inView, capture, judgeRead, judged, faultOf, judge, faults}
+use Rattle.spec_faults.proofs.Lists.{All, none, also}
+use Rattle.spec_faults.proofs.Walk.{once}
+use Rattle.spec_faults.proofs.Once.{placed, byPlaceOnce, faults-once}
+use Rattle.spec_faults.proofs.Places.{PlacedWithin, faults-within}
+use Rattle.spec_answers.specs.Answers.{checkOf}
 use Rattle.serduzhap.specs.Calls.{Checks}
 use Rattle.serduzhap.specs.declared.CheckResult.the-variants as C
 use Rattle.serduzhap.proofs.Agreed.{none-of}

@@ -6,16 +6,16 @@ use mathlib.Core.Path.{_≡_, refl, ap, ap₂, subst, _∙_}
 use mathlib.Core.List.{List, [], _∷_, _++_, map}
 use mathlib.Core.Option.{Option, none, some}
 use lib.ListN.{length}
-use Rattle.text.specs.Bytes.{Bytes}
-use Rattle.faults.specs.Faults.{Fault, record7, records}
-use Rattle.faults.specs.Faults as F
-use Rattle.answers.specs.Answers.{faultAt}
-use Rattle.names.specs.Chains.{partOf}
-use Rattle.listing.specs.Listing.{entryAt}
-use Rattle.records.specs.Records.{recordOf, numbers, words}
-use Rattle.records.specs.declared.Record.{Record}
-use Rattle.messages.specs.Messages.{messageOf}
-use Rattle.found.specs.Found.{Shown, Shows, Listed}
+use Rattle.spec_text.specs.Bytes.{Bytes}
+use Rattle.spec_faults.specs.Faults.{Fault, record7, records}
+use Rattle.spec_faults.specs.Faults as F
+use Rattle.spec_answers.specs.Answers.{faultAt}
+use Rattle.read_names.specs.Chains.{partOf}
+use Rattle.report_order.specs.Listing.{entryAt}
+use Rattle.report_records.specs.Records.{recordOf, numbers, words}
+use Rattle.report_records.specs.declared.Record.{Record}
+use Rattle.report_messages.specs.Messages.{messageOf}
+use Rattle.find_faults.specs.Found.{Shown, Shows, Listed}
 use Rattle.serduzhap.specs.Calls.{partSays, recordsOf}
 use Rattle.serduzhap.specs.declared.NamePart.{NamePart}
 

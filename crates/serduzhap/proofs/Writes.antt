@@ -8,11 +8,11 @@ use mathlib.Core.List.{List, _++_, append-assoc}
 use lib.ListN.{length, take, drop, length-append}
 use lib.Seq.{take-append-seam, drop-append-add, drop-drop, take-all}
 use borrow.Author.Tests.{lt-ltb, le-ltb}
-use Rattle.text.specs.Bytes.{Bytes}
-use Rattle.answers.specs.Answers.{over, wroteIf, wrote, tooLong}
-use Rattle.records.specs.Records.{words}
-use Rattle.records.specs.declared.Record.{Record}
-use Rattle.messages.specs.Messages.{pushed}
+use Rattle.spec_text.specs.Bytes.{Bytes}
+use Rattle.spec_answers.specs.Answers.{over, wroteIf, wrote, tooLong}
+use Rattle.report_records.specs.Records.{words}
+use Rattle.report_records.specs.declared.Record.{Record}
+use Rattle.report_messages.specs.Messages.{pushed}
 use Rattle.serduzhap.specs.Calls.{recordsOf}
 use Rattle.serduzhap.specs.declared.MessageResult.the-variants as M
 use Rattle.serduzhap.proofs.Shown.{recordAt}

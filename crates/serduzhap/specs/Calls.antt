@@ -4,10 +4,10 @@ use Prim.Native.Nat.{ℕ, zero, suc, _+_}
 use mathlib.Core.Path.{_≡_}
 use mathlib.Core.List.{List, [], _++_}
 use lib.ListN.{length}
-use Rattle.text.specs.Bytes.{Bytes, Part}
-use Rattle.answers.specs.Answers.{CheckAnswer, accepted, faulty, check, ReportAnswer, written, report, reportOut, MessageAnswer, wrote, noFault, tooLong, message, messageOut}
-use Rattle.listing.specs.Listing.{entryAt}
-use Rattle.records.specs.Records.{recordOf, numbers, words}
+use Rattle.spec_text.specs.Bytes.{Bytes, Part}
+use Rattle.spec_answers.specs.Answers.{CheckAnswer, accepted, faulty, check, ReportAnswer, written, report, reportOut, MessageAnswer, wrote, noFault, tooLong, message, messageOut}
+use Rattle.report_order.specs.Listing.{entryAt}
+use Rattle.report_records.specs.Records.{recordOf, numbers, words}
 use Rattle.serduzhap.specs.declared.CheckResult.{CheckResult}
 use Rattle.serduzhap.specs.declared.CheckResult.the-variants as C
 use Rattle.serduzhap.specs.declared.ReportResult.{ReportResult}

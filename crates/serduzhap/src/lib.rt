@@ -1,13 +1,13 @@
 // The public calls: check, report, message and name, each over a tree text and a work buffer. They read the tree, walk it, and list its faults.
-use found::Answer;
-use records::RECORD;
-use records::Record;
+use find_faults::Answer;
+use report_records::RECORD;
+use report_records::Record;
 ghost use mathlib.Core.Path.{_≡_};
 ghost use Prim.Native.Nat.{_<_, _≤_, _*_};
 ghost use lib.ListN.{length};
-ghost use Rattle.answers.specs.Answers.{messageOut, wroteIf, name, over};
-ghost use Rattle.messages.specs.Messages.{messageOf};
-ghost use Rattle.names.specs.Chains.{partOf};
+ghost use Rattle.spec_answers.specs.Answers.{messageOut, wroteIf, name, over};
+ghost use Rattle.report_messages.specs.Messages.{messageOf};
+ghost use Rattle.read_names.specs.Chains.{partOf};
 ghost use Rattle.serduzhap.specs.Calls.{Checks, Reports, messageSays, Messages, partSays, recordsOf};
 
 // Accepted; the record of the first fault; or a refusal, by number and line.
@@ -41,13 +41,13 @@ pub struct NamePart {
 pub fn check(text: &[u8], work: &mut [u32]) -> CheckResult
     ensures { λ r. ⌜ Checks (now (text .entry)) (length (now (work .entry))) r ⌝ }
 {
-    match found::find(text, work) {
+    match find_faults::find(text, work) {
         Answer::Faults { count } => {
             if count == 0 {
                 return CheckResult::Accepted;
             }
             CheckResult::Faulty {
-                record: found::record_at(text, work, 0),
+                record: find_faults::record_at(text, work, 0),
             }
         }
         Answer::Refused { number, line } => CheckResult::Refused {
@@ -64,7 +64,7 @@ fn write(text: &[u8], work: &[u32], out: &mut [u32], count: usize)
 {
     let mut j = 0;
     while j < count {
-        records::put_record(out, RECORD * j, found::record_at(text, work, j));
+        report_records::put_record(out, RECORD * j, find_faults::record_at(text, work, j));
         j += 1;
     }
 }
@@ -73,7 +73,7 @@ fn write(text: &[u8], work: &[u32], out: &mut [u32], count: usize)
 pub fn report(text: &[u8], work: &mut [u32], out: &mut [u32]) -> ReportResult
     ensures { λ r. ⌜ Reports (now (text .entry)) (length (now (work .entry))) (now (out .entry)) (now (out .exit)) r ⌝ }
 {
-    match found::find(text, work) {
+    match find_faults::find(text, work) {
         Answer::Faults { count } => {
             if out.len() < RECORD * count {
                 return ReportResult::Refused {
@@ -96,11 +96,11 @@ fn write_message(text: &[u8], out: &mut [u8], r: Record) -> MessageResult
     requires { ⌜ length (now text) < 4294967296 ⌝ }
     ensures { λ m. ⌜ (m ≡ messageSays (wroteIf (length (now (out .entry))) (messageOf (now (text .entry)) r))) × (now (out .exit) ≡ messageOut (wroteIf (length (now (out .entry))) (messageOf (now (text .entry)) r)) (now (out .entry))) ⌝ }
 {
-    let len = messages::message_len(text, r);
+    let len = report_messages::message_len(text, r);
     if out.len() < len {
         return MessageResult::TooLong;
     }
-    messages::push_message(text, out, 0, r);
+    report_messages::push_message(text, out, 0, r);
     MessageResult::Written { len: len }
 }
 
@@ -108,12 +108,12 @@ fn write_message(text: &[u8], out: &mut [u8], r: Record) -> MessageResult
 pub fn message(text: &[u8], work: &mut [u32], i: usize, out: &mut [u8]) -> MessageResult
     ensures { λ r. ⌜ Messages (now (text .entry)) (length (now (work .entry))) i (now (out .entry)) (now (out .exit)) r ⌝ }
 {
-    match found::find(text, work) {
+    match find_faults::find(text, work) {
         Answer::Faults { count } => {
             if count <= i {
                 return MessageResult::NoFault;
             }
-            write_message(text, out, found::record_at(text, work, i))
+            write_message(text, out, find_faults::record_at(text, work, i))
         }
         Answer::Refused { number, line } => MessageResult::Refused {
             number: number,
@@ -126,12 +126,12 @@ pub fn message(text: &[u8], work: &mut [u32], i: usize, out: &mut [u8]) -> Messa
 pub fn name_part(text: &[u8], work: &mut [u32], i: usize) -> NamePart
     ensures { λ r. ⌜ (r ≡ partSays (name (now (text .entry)) (length (now (work .entry))) i)) × (partOf (now (text .entry)) (r .offset) (r .len) ≡ name (now (text .entry)) (length (now (work .entry))) i .bytes) ⌝ }
 {
-    match found::find(text, work) {
+    match find_faults::find(text, work) {
         Answer::Faults { count } => {
             if count <= i {
                 return NamePart { offset: 0, len: 0 };
             }
-            let r = found::record_at(text, work, i);
+            let r = find_faults::record_at(text, work, i);
             NamePart {
                 offset: r.name,
                 len: r.name_len,
@@ -146,5 +146,5 @@ pub fn name<'a>(text: &'a [u8], work: &mut [u32], i: usize) -> &'a [u8]
     ensures { λ r. ⌜ now r ≡ name (now (text .entry)) (length (now (work .entry))) i .bytes ⌝ }
 {
     let p = name_part(text, work, i);
-    messages::part(text, p.offset, p.len)
+    report_messages::part(text, p.offset, p.len)
 }

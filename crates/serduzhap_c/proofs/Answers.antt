@@ -3,8 +3,8 @@ use Prim.Native.Nat.{ℕ}
 use mathlib.Core.Path.{_≡_, refl, sym, ap, _∙_}
 use mathlib.Core.List.{List}
 use lib.ListN.{length}
-use Rattle.text.specs.Bytes.{Bytes}
-use Rattle.answers.specs.Answers.{ReportAnswer, written, report, reportOut, MessageAnswer, wrote, noFault, tooLong, message, messageOut}
+use Rattle.spec_text.specs.Bytes.{Bytes}
+use Rattle.spec_answers.specs.Answers.{ReportAnswer, written, report, reportOut, MessageAnswer, wrote, noFault, tooLong, message, messageOut}
 use Rattle.serduzhap.specs.Calls.{reportSays, Reports, messageSays, Messages}
 use Rattle.serduzhap.specs.declared.ReportResult.{ReportResult}
 use Rattle.serduzhap.specs.declared.ReportResult.the-variants as R

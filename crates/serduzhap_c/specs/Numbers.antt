@@ -1,7 +1,7 @@
 -- The answers of the calls as numbers, for C: document 01's number of the refusal or fault, or 0; what goes with it; what is absent is 0.
 use lib.ListN.{length, getD}
-use Rattle.text.specs.Bytes.{Part}
-use Rattle.answers.specs.Answers.{CheckAnswer, accepted, faulty, ReportAnswer, written, MessageAnswer, wrote, noFault, tooLong}
+use Rattle.spec_text.specs.Bytes.{Part}
+use Rattle.spec_answers.specs.Answers.{CheckAnswer, accepted, faulty, ReportAnswer, written, MessageAnswer, wrote, noFault, tooLong}
 use Rattle.serduzhap_c.specs.declared.CheckNumbers.{CheckNumbers}
 use Rattle.serduzhap_c.specs.declared.ReportNumbers.{ReportNumbers}
 use Rattle.serduzhap_c.specs.declared.MessageNumbers.{MessageNumbers}

@@ -4,7 +4,7 @@ use serduzhap::MessageResult;
 use serduzhap::ReportResult;
 ghost use mathlib.Core.Path.{_≡_};
 ghost use lib.ListN.{length};
-ghost use Rattle.answers.specs.Answers.{check, report, reportOut, message, messageOut, name};
+ghost use Rattle.spec_answers.specs.Answers.{check, report, reportOut, message, messageOut, name};
 ghost use Rattle.serduzhap.specs.Calls.{checkSays};
 ghost use Rattle.serduzhap_c.specs.Numbers.{checkNumbers, reportNumbers, messageNumbers, nameNumbers};
 

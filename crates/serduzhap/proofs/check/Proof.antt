@@ -1,8 +1,8 @@
 -- The three ways: no fault, the first one, and a refusal.
 use mathlib.Core.Path.{ap, _∙_}
 use borrow.Author.Needs.{needs}
-use Rattle.answers.specs.Answers.{faulty, checkOf}
-use Rattle.records.specs.Records.{numbers}
+use Rattle.spec_answers.specs.Answers.{faulty, checkOf}
+use Rattle.report_records.specs.Records.{numbers}
 use Rattle.serduzhap.proofs.Answers.{check-accepted, check-faulty, refused}
 use Rattle.serduzhap.proofs.check.Statement.{statement}
 use Rattle.serduzhap.proofs.check.Tie as tie

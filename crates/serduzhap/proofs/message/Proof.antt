@@ -3,8 +3,8 @@ use mathlib.Core.Path.{ap, _∙_}
 use native.Mathlib.Omega.{arith}
 use lib.ListN.{length}
 use borrow.Author.Needs.{needs}
-use Rattle.answers.specs.Answers.{wroteIf, messageIn, messageOut}
-use Rattle.messages.specs.Messages.{messageOf}
+use Rattle.spec_answers.specs.Answers.{wroteIf, messageIn, messageOut}
+use Rattle.report_messages.specs.Messages.{messageOf}
 use Rattle.serduzhap.specs.Calls.{messageSays}
 use Rattle.serduzhap.proofs.Answers.{few, message-none, message-some, refused}
 use Rattle.serduzhap.proofs.message.Statement.{statement}

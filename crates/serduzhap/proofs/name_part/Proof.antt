@@ -2,8 +2,8 @@
 use mathlib.Core.Path.{sym, subst}
 use native.Mathlib.Omega.{arith}
 use borrow.Author.Needs.{needs}
-use Rattle.answers.specs.Answers.{nameIn}
-use Rattle.text.specs.Reading.{reading}
+use Rattle.spec_answers.specs.Answers.{nameIn}
+use Rattle.spec_text.specs.Reading.{reading}
 use lib.ListN.{length}
 use Rattle.serduzhap.proofs.Answers.{few, Names, name-none, name-some, name-refused}
 use Rattle.serduzhap.proofs.name_part.Statement.{statement}

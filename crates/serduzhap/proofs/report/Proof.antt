@@ -3,7 +3,7 @@ use mathlib.Core.Path.{ap, _∙_}
 use native.Mathlib.Omega.{arith}
 use lib.ListN.{length}
 use borrow.Author.Needs.{needs}
-use Rattle.answers.specs.Answers.{reportOf, reportOut}
+use Rattle.spec_answers.specs.Answers.{reportOf, reportOut}
 use Rattle.serduzhap.specs.Calls.{reportSays}
 use Rattle.serduzhap.proofs.Answers.{few, report-short, report-written, refused}
 use Rattle.serduzhap.proofs.report.Statement.{statement}

@@ -4,7 +4,7 @@ use mathlib.Core.Path.{_≡_, refl, ap, _∙_}
 use native.Mathlib.Omega.{arith}
 use lib.ListN.{length}
 use borrow.Author.Needs.{needs}
-use Rattle.answers.specs.Answers.{over}
+use Rattle.spec_answers.specs.Answers.{over}
 use Rattle.serduzhap.specs.Calls.{recordsOf}
 use Rattle.serduzhap.proofs.Writes.{turn}
 use Rattle.serduzhap.proofs.write.Statement.{statement}

@@ -1,7 +1,7 @@
 -- The two ways: a message that is longer than the output, and one that is written.
 use mathlib.Core.Path.{_∙_}
 use borrow.Author.Needs.{needs}
-use Rattle.messages.specs.Messages.{messageOf}
+use Rattle.report_messages.specs.Messages.{messageOf}
 use Rattle.serduzhap.proofs.Writes.{too-long, fits}
 use Rattle.serduzhap.proofs.write_message.Statement.{statement}
 use Rattle.serduzhap.proofs.write_message.Tie as tie

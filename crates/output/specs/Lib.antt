@@ -1,2 +1,0 @@
--- The lines that `namecheck` prints, from the numbers of the report. What is printed is defined in crate `answers`, specs/Printed.
-pub mod Lines

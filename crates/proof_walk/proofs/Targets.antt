@@ -1,0 +1,159 @@
+-- The walk of a target: one loop over its rows binds the names of its `var` lines, walks what index and get have below them, and notes
+-- a fault at each line of another kind. By recursion over the target: the loop comes past each part of it.
+use Prim.Native.Nat.{ℕ, suc, _+_, _≤_, _<_}
+use native.Mathlib.Numerals.{add-one}
+use native.Mathlib.Omega.{arith}
+use mathlib.Core.Path.{_≡_, refl, sym, ap, ap₂, _∙_, subst}
+use mathlib.Core.Bool.{Bool, true, false, cond, not, _&&_, false≢true}
+use mathlib.Core.List.{List, [], _∷_, _++_}
+use lib.Dec.{eqb}
+use lib.ListN.{length}
+use Rattle.spec_text.specs.Bytes.{Bytes, Part, mem}
+use Rattle.spec_text.specs.Tree.{Line, Expr, Exprs, var, node, access, tuple, call, lambda, enil, econs, lenE, lenEs}
+use Rattle.spec_faults.specs.Position.{inDef}
+use Rattle.spec_faults.specs.Faults.{Fault, refusedAt}
+use Rattle.spec_faults.proofs.Walk.{State, Env, afterT, afterTs}
+use Rattle.spec_faults.proofs.Raw.{rawEs, rawT, rawTs}
+use Rattle.work_rows.specs.Layout.{kindAt, numberAt}
+use Rattle.read_tree.specs.Rows.{Row, row, rowsE, rowsEs}
+use Rattle.read_tree.proofs.Lengths.{sized-e}
+use Rattle.work_marks.specs.Marks.{afterRow, putSlot}
+use Rattle.work_marks.specs.Loops.{rowsTo}
+use Rattle.work_marks.proofs.Loops.{rows-more}
+use Rattle.walk_scopes.specs.Scopes.{defined}
+use Rattle.walk_scopes.specs.declared.ScopeStack.{ScopeStack}
+use Rattle.walk_own_names.specs.Own.{never}
+use Rattle.read_row.specs.Worded.{NodeWord, lit, un, bin, list, set, treeset, dict, AccessWord, index, get, WordedE, WordedEs}
+use Rattle.walk_tree.specs.Walk.{nextTarget, targetAt, walkExpr}
+use Rattle.proof_walk.specs.Table.{Here}
+use Rattle.proof_walk.specs.Notes.{Note, notesT, notesTs, assignedBy}
+use Rattle.proof_walk.proofs.State.{At}
+use Rattle.proof_walk.proofs.Held.{here-tail, here-left, here-past, row-kind, row-after, row-number, row-small}
+use Rattle.proof_walk.proofs.Assigned.{Assigns, range-ts, still, end-t, targets-first, targets-rest, tuple-parts, none-still}
+use Rattle.proof_walk.proofs.Exprs.{Places, Flat, exprs-walked}
+use Rattle.proof_walk.proofs.Done.{Right, Done, done-then, done-skip, done-fault, done-bind, done-walked, done-to, Looped, looped-one, looped-then, looped-to}
+
+-- ---- one row of the loop
+next-on : (w : List ℕ) (i : ℕ) → i < nextTarget w i
+unfolding nextTarget
+next-on w i = go (eqb (kindAt w i) 24)
+  where
+    go : (b : Bool) → i < cond b (i + 1) (afterRow w i)
+    go true = omega arith
+    go false = omega arith
+
+-- a kind that no target has
+abbrev Refused : ℕ → Type 0
+Refused k = (not (eqb k 17) && (not (eqb k 24) && (not (eqb k 20) && not (eqb k 22)))) ≡ true
+
+refused-node : {k : ℕ} → NodeWord k → Refused k
+refused-node lit = refl
+refused-node un = refl
+refused-node bin = refl
+refused-node list = refl
+refused-node set = refl
+refused-node treeset = refl
+refused-node dict = refl
+
+module _ (value : ℕ → List ℕ → List ℕ) (s : ScopeStack) (i : ℕ) (w : List ℕ) where
+  -- what the loop does at row i, and where it goes on
+  record Turn (z : List ℕ) (j : ℕ) : Type 0 where
+    does : targetAt value s i w ≡ z
+    next : nextTarget w i ≡ j
+
+  turn-var : kindAt w i ≡ 17 → Turn (defined s w (numberAt w i)) (afterRow w i)
+  unfolding targetAt nextTarget
+  turn-var e = record { does = rw e refl; next = rw e refl }
+
+  turn-tuple : kindAt w i ≡ 24 → Turn w (i + 1)
+  unfolding targetAt nextTarget
+  turn-tuple e = record { does = rw e refl; next = rw e refl }
+
+  turn-access : {k : ℕ} → AccessWord k → kindAt w i ≡ k → Turn (rowsTo afterRow value (i + 1) (afterRow w i) w) (afterRow w i)
+  unfolding targetAt nextTarget
+  turn-access index e = record { does = rw e refl; next = rw e refl }
+  turn-access get e = record { does = rw e refl; next = rw e refl }
+
+  turn-refused : Refused (kindAt w i) → Turn (putSlot w i 14) (afterRow w i)
+  unfolding targetAt nextTarget
+  turn-refused r = go (eqb (kindAt w i) 17) (eqb (kindAt w i) 24) (eqb (kindAt w i) 20) (eqb (kindAt w i) 22) refl refl refl refl r
+    where
+      go : (a b c d : Bool) → eqb (kindAt w i) 17 ≡ a → eqb (kindAt w i) 24 ≡ b → eqb (kindAt w i) 20 ≡ c → eqb (kindAt w i) 22 ≡ d
+          → (not a && (not b && (not c && not d))) ≡ true → Turn (putSlot w i 14) (afterRow w i)
+      go true b c d p q y z n = absurd (false≢true n)
+      go false true c d p q y z n = absurd (false≢true n)
+      go false false true d p q y z n = absurd (false≢true n)
+      go false false false true p q y z n = absurd (false≢true n)
+      go false false false false p q y z n = record { does = rw (p, q, y, z) refl; next = rw q refl }
+
+-- at the first row of targets nothing new is assigned yet
+now-ts : {ns : List Note} {a : List Part} {i j : ℕ} (es : Exprs) → j < never → Assigns ns a (notesTs es i) i j → i + lenEs es ≤ j → (x : Bytes) → mem x a ≡ assignedBy ns x i
+now-ts {i = i} {j = j} es c g p x = still g (range-ts es i i j (omega arith) p) x i (omega arith) (omega arith) (omega arith)
+
+-- ---- the loop
+abbrev pub turns : Bytes → ℕ → ScopeStack → ℕ → ℕ → List ℕ → List ℕ
+turns text k s stop r w = rowsTo nextTarget (targetAt (walkExpr k text false s) s) r stop w
+
+-- one row
+turn : (text : Bytes) (k : ℕ) (s : ScopeStack) (stop : ℕ) {r i j : ℕ} {w y z : List ℕ} → r < stop → Turn (walkExpr k text false s) s r w y i → y ≡ z → i ≡ j
+    → turns text k s stop r w ≡ turns text k s stop j z
+turn text k s stop {r} {w = w} l t p q =
+    rows-more nextTarget (targetAt (walkExpr k text false s) s) next-on r stop w l ∙ ap₂ (turns text k s stop) (t .next ∙ q) (t .does ∙ p)
+
+module _ {text : Bytes} {rows : List Row} {num : Bytes → ℕ} {ns : List Note} {s : ScopeStack} {v : Env} (flat : Flat s v) (room : s .end ≤ length rows) (k stop : ℕ) (end : stop ≤ s .end) where
+  -- a line of another kind
+  refused : (l : Line) (below : ℕ) (part : List Row) (r n : ℕ) {st : State} {seen : List Fault} {w : List ℕ} → n ≡ suc (suc r) → r + suc below ≤ stop → Here rows r (row l below ∷ part)
+      → Refused (l .word) → At text rows num ns s [] v st seen w r → Places r seen → Right ns v (st .assigned) (r + suc below)
+      → Looped text rows num ns s v (turns text k s stop) st st seen (refusedAt n l ∷ []) w r (r + suc below)
+  refused l below part r n {st} {seen} {w} q m here other h p right =
+      looped-one
+      (turn text k s stop (omega arith) (turn-refused (walkExpr k text false s) s r w (subst Refused (sym (row-kind (h .table) here)) other)) refl (row-after (h .table) here))
+      (done-fault h p (refusedAt n l) refl q (omega arith) (omega arith) (omega arith) (omega arith) right)
+
+  mutual
+    -- j is a row after the target
+    pub target : (t : Expr) (r n j : ℕ) {st : State} {seen : List Fault} {w : List ℕ} → n ≡ suc (suc r) → lenE t ≤ k → r + lenE t ≤ stop → r + lenE t ≤ j → j < never
+        → Here rows r (rowsE t) → WordedE t → At text rows num ns s [] v st seen w r → Places r seen → (v .home ≡ inDef → Assigns ns (st .assigned) (notesT t r) r j)
+        → Looped text rows num ns s v (turns text k s stop) st (afterT t st) seen (rawT t n [] v st) w r (r + lenE t)
+    target (var l) r n j {st} {seen} {w} q f m b c here d h p by =
+        let few = h .table .few in
+        looped-one
+        (turn text k s stop (omega arith) (turn-var (walkExpr k text false s) s r w (row-kind (h .table) here ∙ d .0)) (ap (defined s w) (row-number (h .table) here (d .1))) (row-after (h .table) here))
+        (done-bind h p (l .name) (l .name ∷ st .assigned) (flat .inner) (omega arith) (row-small (h .table) here (d .1)) (omega arith) (omega arith)
+        (λ i. end-t c (var l) st (by i) (r + 1) (omega arith) (omega arith)))
+    target (node l es) r n j q f m b c here d h p by =
+        refused l (lenEs es) (rowsEs es) r n q m here (refused-node (d .0)) h p (λ i x. none-still (by i) x (r + suc (lenEs es)) (omega arith) b)
+    target (access l es) r n j {st} {seen} {w} q f m b c here d h p by =
+        let e : suc r + lenEs es ≡ r + suc (lenEs es) = omega arith in
+        let head : Done text rows num ns s v st st seen [] w w r (suc r) =
+        done-skip h p (st .assigned) (omega arith) (omega arith) (λ i x. none-still (by i) x (suc r) (omega arith) (omega arith)) in
+        looped-one
+        (turn text k s stop (omega arith) (turn-access (walkExpr k text false s) s r w (d .0) (row-kind (h .table) here))
+        (ap₂ (λ i j. rowsTo afterRow (walkExpr k text false s) i j w) (add-one r) (row-after (h .table) here ∙ sym e)) (row-after (h .table) here))
+        (done-to e (ap (λ i. rawEs es (suc i) [] v st) (sym q)) (done-then head
+        (done-walked (st .assigned) refl (λ i x. none-still (by i) x (suc r + lenEs es) (omega arith) (omega arith))
+        (exprs-walked k (suc r) es (here-tail here) (d .1) (omega arith) (omega arith) room flat (head .after) (head .places)
+        (λ i x z u y. none-still (by i) x z (omega arith) (omega arith))))))
+    target (tuple l es) r n j {st} {seen} {w} q f m b c here d h p by =
+        let head : Done text rows num ns s v st st seen [] w w r (suc r) =
+        done-skip h p (st .assigned) (omega arith) (omega arith) (λ i x. now-ts es c (tuple-parts c l es (by i)) (omega arith) x) in
+        looped-to (omega arith) refl (looped-then
+        (turn text k s stop (omega arith) (turn-tuple (walkExpr k text false s) s r w (row-kind (h .table) here ∙ d .0)) refl (add-one r)) head
+        (targets es (suc r) (suc n) j (omega arith) (omega arith) (omega arith) (omega arith) c (here-tail here) (d .1) (head .after) (head .places) (λ i. tuple-parts c l es (by i))))
+    target (call l g es) r n j q f m b c here d h p by =
+        refused l (lenE g + lenEs es) (rowsE g ++ rowsEs es) r n q m here (rw (d .0) refl) h p (λ i x. none-still (by i) x (r + suc (lenE g + lenEs es)) (omega arith) b)
+    target (lambda l e) r n j q f m b c here d h p by =
+        refused l (lenE e) (rowsE e) r n q m here (rw (d .0) refl) h p (λ i x. none-still (by i) x (r + suc (lenE e)) (omega arith) b)
+
+    targets : (es : Exprs) (r n j : ℕ) {st : State} {seen : List Fault} {w : List ℕ} → n ≡ suc (suc r) → lenEs es ≤ k → r + lenEs es ≤ stop → r + lenEs es ≤ j → j < never
+        → Here rows r (rowsEs es) → WordedEs es → At text rows num ns s [] v st seen w r → Places r seen → (v .home ≡ inDef → Assigns ns (st .assigned) (notesTs es r) r j)
+        → Looped text rows num ns s v (turns text k s stop) st (afterTs es st) seen (rawTs es n [] v st) w r (r + lenEs es)
+    targets enil r n j {st} {seen} {w} q f m b c here d h p by =
+        let e : r ≡ r + 0 = omega arith in
+        looped-one (ap (λ i. turns text k s stop i w) e) (done-skip h p (st .assigned) (omega arith) (omega arith) (λ i x. none-still (by i) x (r + 0) (omega arith) b))
+    targets (econs e es) r n j {st} {seen} {w} q f m b c here d h p by =
+        let first : Looped text rows num ns s v (turns text k s stop) st (afterT e st) seen (rawT e n [] v st) w r (r + lenE e) =
+        target e r n (r + lenE e) q (omega arith) (omega arith) (omega arith) (omega arith) (here-left (rowsE e) (rowsEs es) here) (d .0) h p (λ i. targets-first c e es b (by i)) in
+        looped-to (omega arith) refl (looped-then (first .goes) (first .done)
+        (targets es (r + lenE e) (n + lenE e) j (omega arith) (omega arith) (omega arith) (omega arith) c (here-past (sized-e e) (rowsEs es) here) (d .1)
+        (first .done .after) (first .done .places) (λ i. targets-rest c e es st b (by i))))

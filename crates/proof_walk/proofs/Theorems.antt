@@ -1,0 +1,45 @@
+-- The whole walk over a buffer that holds the rows of a tree leaves in the slots of its statements the faults of the tree, in the text's
+-- order and once for a lambda and a name; the slots of `global` lines are empty, and what the rows say stays.
+use Prim.Native.Nat.{ℕ, _+_, _-_, _<_}
+use native.Mathlib.Omega.{arith}
+use mathlib.Core.Path.{_≡_, ap, _∙_}
+use mathlib.Core.List.{List, []}
+use lib.ListN.{length}
+use Rattle.spec_text.specs.Bytes.{Bytes}
+use Rattle.spec_text.specs.Tree.{Tree, lenSs, firstLine}
+use Rattle.spec_faults.proofs.Walk.{moduleEnv, startState}
+use Rattle.spec_faults.proofs.Raw.{rawSs}
+use Rattle.spec_faults.proofs.Deduped.{dedupe}
+use Rattle.read_tree.specs.Rows.{rowsT}
+use Rattle.read_tree.proofs.Lengths.{rows-length}
+use Rattle.work_marks.specs.Marks.{lambdaEnd, slotAt}
+use Rattle.work_marks.proofs.Fields.{Words, Kept, kept-trans}
+use Rattle.read_row.specs.Worded.{Somes, WordedSs}
+use Rattle.walk_tree.specs.Walk.{walked}
+use Rattle.proof_walk.specs.Table.{Table}
+use Rattle.proof_walk.specs.Slots.{slotsFrom, keys}
+use Rattle.proof_walk.proofs.Whole.{statements, started-kept, started-clean}
+
+-- numbers of names are rows; no row says that a lambda is open
+module _ (text : Bytes) (t : Tree) (num : Bytes → ℕ) (w : List ℕ) (table : Table text (rowsT t) num w) (words : Words w) (worded : WordedSs (t .body)) (named : Somes (t .globals))
+    (small : (x : Bytes) → num x < 4_096 → num x < length (rowsT t)) (closed : (a : ℕ) → a < length (rowsT t) → lambdaEnd w a ≡ 0) where
+  -- the buffer after the walk
+  abbrev after : List ℕ
+  after = walked text (length (t .globals)) (length (rowsT t)) w
+
+  pub walked-slots : slotsFrom after (length (t .globals)) (lenSs (t .body)) ≡ keys (dedupe [] (rawSs (t .body) (firstLine t) [] moduleEnv (startState t)))
+  walked-slots =
+      let first : ℕ = length (t .globals) in
+      let e : lenSs (t .body) ≡ (first + lenSs (t .body)) - first = omega arith in
+      ap (slotsFrom after first) e ∙ statements text t num w table words worded named small closed .slots
+
+  pub walked-kept : Kept w after
+  walked-kept = kept-trans (started-kept text t num w table words worded named small closed) (statements text t num w table words worded named small closed .change .kept)
+
+  pub walked-globals : (i : ℕ) → i < length (t .globals) → slotAt after i ≡ 0
+  walked-globals i l =
+      statements text t num w table words worded named small closed .change .before i l
+      ∙ started-clean text t num w table words worded named small closed i (omega (arith, rows-length t))
+
+  pub walked-words : Words after
+  walked-words = statements text t num w table words worded named small closed .after .words

@@ -1,0 +1,295 @@
+// A cursor over the fields of a line: it goes by value, and each step hands back the next one. A step that finds something else hands
+// back a cursor that is not ok, which takes nothing any more, so that a line's reader needs no branch.
+ghost use mathlib.Core.Path.{_≡_};
+ghost use Prim.Native.Nat.{_+_, _<_};
+ghost use lib.ListN.{length, getD};
+ghost use Rattle.spec_text.specs.Bytes.{same, isDigit, isNameByte};
+ghost use Rattle.read_fields.specs.Fields.{isEnd, fieldAt, refused, startAt, fieldFrom, numberFrom, hashOf, nameFrom, mix, endFrom, endsAt, pastEnd, noNumber, noName};
+
+// The most bytes of a name.
+const LONGEST_NAME: usize = 63;
+
+// Where the next field starts, whether there is one, and whether all went well so far.
+pub struct Cursor {
+    pub at: usize,
+    pub more: bool,
+    pub ok: bool,
+}
+
+// A number, and the cursor past it.
+pub struct Number {
+    pub value: u32,
+    pub next: Cursor,
+}
+
+// A name: the offset of its first byte, its length, and its hash.
+pub struct Name {
+    pub at: usize,
+    pub len: usize,
+    pub hash: usize,
+    pub next: Cursor,
+}
+
+// A byte of a number.
+pub fn is_digit(b: u8) -> bool
+    ensures { λ r. ⌜ r ≡ isDigit b ⌝ }
+{
+    match b {
+        b'0'..=b'9' => true,
+        _ => false,
+    }
+}
+
+// A byte of a name.
+pub fn is_name_byte(b: u8) -> bool
+    ensures { λ r. ⌜ r ≡ isNameByte b ⌝ }
+{
+    match b {
+        b'a'..=b'z' | b'A'..=b'Z' | b'0'..=b'9' | b'_' => true,
+        _ => false,
+    }
+}
+
+// A tab or a line feed.
+pub fn is_end(b: u8) -> bool
+    ensures { λ r. ⌜ r ≡ isEnd b ⌝ }
+{
+    match b {
+        b'\t' | b'\n' => true,
+        _ => false,
+    }
+}
+
+fn wide(b: u8) -> usize
+    ensures { λ r. ⌜ (r ≡ b) × (r < 256) ⌝ }
+{
+    b as usize
+}
+
+// The byte at i, and 0 past the end.
+pub fn byte_at(text: &[u8], i: usize) -> u8
+    ensures { λ r. ⌜ r ≡ getD (now (text .entry)) i 0 ⌝ }
+{
+    if i < text.len() { text[i] } else { 0 }
+}
+
+// Whether the field at an offset has these bytes.
+pub fn is_field(text: &[u8], at: usize, word: &[u8]) -> bool
+    ensures { λ r. ⌜ r ≡ same (fieldAt (now (text .entry)) at) (now (word .entry)) ⌝ }
+{
+    let n = word.len();
+    if text.len() <= at {
+        return n == 0;
+    }
+    if text.len() - at < n {
+        return false;
+    }
+    let mut i = 0;
+    while i < n {
+        let b = word[i];
+        if text[at + i] != b {
+            return false;
+        }
+        if is_end(b) {
+            return false;
+        }
+        i += 1;
+    }
+    ends_at(text, at + n)
+}
+
+// Whether a field ends at i: at a tab, an LF or the end of the text.
+fn ends_at(text: &[u8], i: usize) -> bool
+    ensures { λ r. ⌜ r ≡ endsAt (now (text .entry)) i ⌝ }
+{
+    if i < text.len() {
+        is_end(text[i])
+    } else {
+        true
+    }
+}
+
+// The hash of a name.
+pub fn hash(name: &[u8]) -> usize
+    ensures { λ r. ⌜ (r ≡ hashOf (now (name .entry))) × (r < 4096) ⌝ }
+{
+    let mut h = 0;
+    let mut i = 0;
+    while i < name.len() {
+        h = mixed(h, name[i]);
+        i += 1;
+    }
+    h
+}
+
+// A hash with one more byte.
+fn mixed(h: usize, b: u8) -> usize
+    requires { ⌜ h < 4096 ⌝ }
+    ensures { λ r. ⌜ (r ≡ mix h b) × (r < 4096) ⌝ }
+{
+    (h * 1597 + wide(b)) % 4096
+}
+
+fn refused_cursor() -> Cursor
+    ensures { λ r. ⌜ r ≡ refused ⌝ }
+{
+    Cursor {
+        at: 0,
+        more: false,
+        ok: false,
+    }
+}
+
+fn refused_number() -> Number
+    ensures { λ r. ⌜ r ≡ noNumber ⌝ }
+{
+    Number {
+        value: 0,
+        next: refused_cursor(),
+    }
+}
+
+fn refused_name() -> Name
+    ensures { λ r. ⌜ r ≡ noName ⌝ }
+{
+    Name {
+        at: 0,
+        len: 0,
+        hash: 0,
+        next: refused_cursor(),
+    }
+}
+
+// The cursor past the byte at i, where that is a tab or LF.
+fn past_end(text: &[u8], i: usize) -> Cursor
+    ensures { λ r. ⌜ r ≡ pastEnd (now (text .entry)) i ⌝ }
+{
+    let b = byte_at(text, i);
+    if is_end(b) {
+        return Cursor {
+            at: i + 1,
+            more: b == b'\t',
+            ok: true,
+        };
+    }
+    refused_cursor()
+}
+
+impl Cursor {
+    // At the first field of the line that starts at an offset.
+    pub fn start(at: usize) -> Cursor
+        ensures { λ r. ⌜ r ≡ startAt at ⌝ }
+    {
+        Cursor {
+            at: at,
+            more: true,
+            ok: true,
+        }
+    }
+
+    // The field that has these bytes.
+    pub fn field(self, text: &[u8], word: &[u8]) -> Cursor
+        ensures { λ r. ⌜ r ≡ fieldFrom (now (word .entry)) (now (text .entry)) self ⌝ }
+    {
+        if self.ok {
+            if self.more {
+                if is_field(text, self.at, word) {
+                    return past_end(text, self.at + word.len());
+                }
+            }
+        }
+        refused_cursor()
+    }
+
+    // A number, written with no leading zero.
+    pub fn number(self, text: &[u8], largest: u32) -> Number
+        ensures { λ r. ⌜ r ≡ numberFrom largest (now (text .entry)) self ⌝ }
+    {
+        if !self.ok {
+            return refused_number();
+        }
+        if !self.more {
+            return refused_number();
+        }
+        let at = self.at;
+        let most = largest as u64;
+        let mut i = at;
+        let mut v: u64 = 0;
+        while is_digit(byte_at(text, i)) {
+            let d = text[i] - 48;
+            v = v * 10 + (d as u64);
+            if most < v {
+                return refused_number();
+            }
+            i += 1;
+        }
+        if i == at {
+            return refused_number();
+        }
+        if at + 1 < i {
+            if text[at] == 48 {
+                return refused_number();
+            }
+        }
+        let c = past_end(text, i);
+        if c.ok {
+            Number {
+                value: v as u32,
+                next: c,
+            }
+        } else {
+            refused_number()
+        }
+    }
+
+    // A name, with its hash.
+    pub fn name(self, text: &[u8]) -> Name
+        ensures { λ r. ⌜ r ≡ nameFrom (now (text .entry)) self ⌝ }
+    {
+        if !self.ok {
+            return refused_name();
+        }
+        if !self.more {
+            return refused_name();
+        }
+        let at = self.at;
+        if is_digit(byte_at(text, at)) {
+            return refused_name();
+        }
+        let mut i = at;
+        let mut h = 0;
+        while is_name_byte(byte_at(text, i)) {
+            h = mixed(h, text[i]);
+            i += 1;
+        }
+        if i == at {
+            return refused_name();
+        }
+        if LONGEST_NAME < i - at {
+            return refused_name();
+        }
+        let c = past_end(text, i);
+        if c.ok {
+            Name {
+                at: at,
+                len: i - at,
+                hash: h,
+                next: c,
+            }
+        } else {
+            refused_name()
+        }
+    }
+
+    // The end of the line: no field is left.
+    pub fn line_end(self) -> Cursor
+        ensures { λ r. ⌜ r ≡ endFrom self ⌝ }
+    {
+        if self.ok {
+            if !self.more {
+                return self;
+            }
+        }
+        refused_cursor()
+    }
+}

@@ -1,0 +1,364 @@
+// Reads a tree text into rows, or refuses it. An agenda in the work buffer says which lines are due, so nothing recurses: each turn
+// takes one line, writes its row, and puts the lines due below it on the agenda.
+use read_line::Line;
+use work_rows::DUE_BASE;
+use work_rows::KINDS;
+ghost use mathlib.Core.Path.{_≡_};
+ghost use Prim.Native.Nat.{_+_, _-_, _<_, _≤_};
+ghost use lib.ListN.{length};
+ghost use Rattle.spec_text.specs.Reading.{reading, ended};
+ghost use Rattle.read_tree.specs.Agenda.{after};
+ghost use Rattle.read_tree.specs.Laid.{Answers, skip};
+ghost use Rattle.read_tree.specs.Machine.{refusalOf, dueAt, childrenBy, stack, pushed, pushedClose, pushedBelow, isLeaf, pushedDue, lessened, rowWritten, rowClosed, Machine, machine, taken, turnOf, Turns, answerAt, restAt, Bounded, left, Few};
+
+// The most bytes of a text, the most lines after the first, the deepest line, the shortest work buffer, the most parameters.
+const LONGEST_TEXT: usize = 65536;
+
+const MOST_LINES: usize = 4096;
+
+const DEEPEST: usize = 64;
+
+const SHORTEST_WORK: usize = 16384;
+
+const MOST_PARAMS: usize = 16;
+
+// What a text is: a tree, with so many `global` lines and so many lines after the first; or refused, by number and line.
+pub enum Read {
+    Tree { globals: usize, lines: usize },
+    Refused { number: usize, line: usize },
+}
+
+// How far the reading is: the offset of the next line, the rows written, the entries of the agenda, and a refusal or 0.
+pub struct Progress {
+    pub at: usize,
+    pub rows: usize,
+    pub top: usize,
+    pub refusal: usize,
+}
+
+// How many lines of each sort are due below a line, in their order.
+pub struct Children {
+    pub exprs: usize,
+    pub stmts: usize,
+    pub elifs: usize,
+    pub others: usize,
+    pub methods: usize,
+    pub attrs: usize,
+}
+
+// A line that is due, or its refusal.
+pub struct Due {
+    pub refusal: usize,
+    pub line: Line,
+}
+
+// What is left of a without b; 0 where b is more.
+fn minus(a: usize, b: usize) -> usize
+    ensures { λ r. ⌜ r ≡ a - b ⌝ }
+{
+    if b <= a { a - b } else { 0 }
+}
+
+// Refusals 3, 5, 6 and 7, in this order, of line n, which has d levels left.
+fn refusal(ended: bool, l: Line, sort: usize, n: usize, d: usize) -> usize
+    ensures { λ r. ⌜ r ≡ refusalOf ended l sort n d ⌝ }
+{
+    if ended {
+        return 3;
+    }
+    if !l.ok {
+        return 5;
+    }
+    if l.sort != sort {
+        return 6;
+    }
+    if MOST_LINES + 1 < n {
+        return 7;
+    }
+    if MOST_PARAMS < l.params {
+        return 7;
+    }
+    if d == 0 {
+        return 7;
+    }
+    0
+}
+
+// The line that starts at an offset, where a line of a sort is due.
+fn line_due(text: &[u8], at: usize, sort: usize, n: usize, d: usize) -> Due
+    ensures { λ r. ⌜ r ≡ dueAt (now (text .entry)) at sort n d ⌝ }
+{
+    let l = read_line::line_at(text, at);
+    Due {
+        refusal: refusal(text.len() <= at, l, sort, n, d),
+        line: l,
+    }
+}
+
+// The lines due below a line of a kind, by its counts.
+fn children_of(kind: usize, a: usize, b: usize, c: usize) -> Children
+    requires { ⌜ a < 4294967296 ⌝ }
+    ensures { λ r. ⌜ r ≡ childrenBy kind a b c ⌝ }
+{
+    match kind {
+        5 | 14 => each(0, a, 0, 0, 0, 0),
+        6 | 19 | 20 => each(2, 0, 0, 0, 0, 0),
+        7 => each(1, a, b, c, 0, 0),
+        8 | 9 | 10 => each(1, a, 0, 0, 0, 0),
+        11 | 12 | 15 | 18 | 22 | 28 => each(1, 0, 0, 0, 0, 0),
+        13 => each(0, 0, 0, 0, a, b),
+        21 => each(1 + a, 0, 0, 0, 0, 0),
+        23 | 24 | 25 | 26 => each(a, 0, 0, 0, 0, 0),
+        27 => each(2 * a, 0, 0, 0, 0, 0),
+        _ => each(0, 0, 0, 0, 0, 0),
+    }
+}
+
+fn each(
+    exprs: usize,
+    stmts: usize,
+    elifs: usize,
+    others: usize,
+    methods: usize,
+    attrs: usize,
+) -> Children
+    ensures { λ r. ⌜ r ≡ record { exprs = exprs; stmts = stmts; elifs = elifs; others = others; methods = methods; attrs = attrs } ⌝ }
+{
+    Children {
+        exprs: exprs,
+        stmts: stmts,
+        elifs: elifs,
+        others: others,
+        methods: methods,
+        attrs: attrs,
+    }
+}
+
+// Puts n lines of a sort, with d levels left, on the agenda.
+fn push(work: &mut [u32], top: usize, sort: usize, n: usize, d: usize) -> usize
+    requires { ⌜ (top < 1048576) × (sort < 8) × (d < 128) × (n ≤ 16384) ⌝ }
+    ensures { λ r. ⌜ (stack (now (work .exit)) r ≡ pushed sort n d (stack (now (work .entry)) top)) × (r ≤ top + 1) ⌝ }
+{
+    if n == 0 {
+        return top;
+    }
+    work_rows::put(work, DUE_BASE + top, sort + 8 * d + 1024 * n);
+    top + 1
+}
+
+// Puts the end of what is below row i on the agenda.
+fn push_close(work: &mut [u32], top: usize, i: usize) -> usize
+    requires { ⌜ (top < 1048576) × (i ≤ 4096) ⌝ }
+    ensures { λ r. ⌜ (stack (now (work .exit)) r ≡ pushedClose i (stack (now (work .entry)) top)) × (r ≤ top + 1) ⌝ }
+{
+    work_rows::put(work, DUE_BASE + top, 7 + 1024 * i);
+    top + 1
+}
+
+// Puts what is due below row i on the agenda, the last first.
+fn push_below(work: &mut [u32], top: usize, i: usize, c: Children, d: usize) -> usize
+    requires { ⌜ (top < 1000000) × (i ≤ 4096) × (d < 128) × Few c ⌝ }
+    ensures { λ r. ⌜ (stack (now (work .exit)) r ≡ pushedBelow i c d (stack (now (work .entry)) top)) × (r ≤ top + 7) ⌝ }
+{
+    let t = push_close(work, top, i);
+    let t = push(work, t, 4, c.attrs, d);
+    let t = push(work, t, 3, c.methods, d);
+    let t = push(work, t, 5, c.others, d);
+    let t = push(work, t, 2, c.elifs, d);
+    let t = push(work, t, 5, c.stmts, d);
+    push(work, t, 6, c.exprs, d)
+}
+
+// Whether nothing is due below a line.
+fn is_leaf(c: Children) -> bool
+    requires { ⌜ Few c ⌝ }
+    ensures { λ r. ⌜ r ≡ isLeaf c ⌝ }
+{
+    c.exprs + (c.stmts + (c.elifs + (c.others + (c.methods + c.attrs)))) == 0
+}
+
+// Puts what is due below row i on the agenda, if anything is.
+fn push_due(work: &mut [u32], top: usize, i: usize, c: Children, d: usize) -> usize
+    requires { ⌜ (top < 1000000) × (i ≤ 4096) × (d < 128) × Few c ⌝ }
+    ensures { λ r. ⌜ (stack (now (work .exit)) r ≡ pushedDue i c d (stack (now (work .entry)) top)) × (r ≤ top + 7) ⌝ }
+{
+    if is_leaf(c) {
+        return top;
+    }
+    push_below(work, top, i, c, d)
+}
+
+// Writes row i: its kind, and its name or where its line starts.
+fn write_row(text: &[u8], work: &mut [u32], i: usize, at: usize, l: Line)
+    requires { ⌜ (i ≤ 4096) × ((l .len ≡ 0 → ⊥) → l .name < 4294967296) ⌝ }
+    ensures { λ _. ⌜ now (work .exit) ≡ rowWritten (now (text .entry)) i at l (now (work .entry)) ⌝ }
+{
+    work_rows::put(work, i, l.kind);
+    if l.len == 0 {
+        read_names::place(work, i, at)
+    } else {
+        read_names::add(text, work, i, l.name, l.len, l.hash)
+    }
+}
+
+// What is below row i has been read: its row gets the number of rows after it.
+fn close(work: &mut [u32], i: usize, rows: usize)
+    requires { ⌜ (i < 4294967296) × (rows ≤ 4096) ⌝ }
+    ensures { λ _. ⌜ now (work .exit) ≡ rowClosed i rows (now (work .entry)) ⌝ }
+{
+    let kind = work_rows::kind(work, i);
+    work_rows::put(work, i, kind + KINDS * minus(rows, i + 1))
+}
+
+// One of the lines of the entry e, which is on top, is taken.
+fn less(work: &mut [u32], top: usize, e: usize) -> usize
+    requires { ⌜ (0 < top) × (top < 1048576) ⌝ }
+    ensures { λ r. ⌜ (stack (now (work .exit)) r ≡ lessened e (stack (now (work .entry)) top)) × (r ≤ top) ⌝ }
+{
+    if e / 1024 <= 1 {
+        return top - 1;
+    }
+    work_rows::put(work, DUE_BASE + top - 1, e - 1024);
+    top
+}
+
+// Takes the next line, which is due by the entry e.
+fn take(text: &[u8], work: &mut [u32], s: Progress, e: usize) -> Progress
+    requires { ⌜ Bounded (now text) s ⌝ }
+    requires { ⌜ 0 < s .top ⌝ }
+    ensures { λ r. ⌜ machine (now (work .exit)) r ≡ taken (now (text .entry)) e (machine (now (work .entry)) s) ⌝ }
+    ensures { λ r. ⌜ Bounded (now (text .entry)) r × (left (now (text .entry)) r < left (now (text .entry)) s) ⌝ }
+{
+    let d = e / 8 % 128;
+    let x = line_due(text, s.at, e % 8, s.rows + 2, d);
+    if x.refusal != 0 {
+        return Progress {
+            at: s.at,
+            rows: s.rows,
+            top: 0,
+            refusal: x.refusal,
+        };
+    }
+    let l = x.line;
+    write_row(text, work, s.rows, s.at, l);
+    let t = less(work, s.top, e);
+    let c = children_of(
+        l.kind,
+        work_rows::wide(l.count0),
+        work_rows::wide(l.count1),
+        work_rows::wide(l.count2),
+    );
+    let top = push_due(work, t, s.rows, c, minus(d, 1));
+    Progress {
+        at: l.next,
+        rows: s.rows + 1,
+        top: top,
+        refusal: 0,
+    }
+}
+
+// One turn: what is on top of the agenda.
+fn turn(text: &[u8], work: &mut [u32], s: Progress) -> Progress
+    requires { ⌜ Bounded (now text) s ⌝ }
+    requires { ⌜ 0 < s .top ⌝ }
+    ensures { λ r. ⌜ machine (now (work .exit)) r ≡ turnOf (now (text .entry)) (machine (now (work .entry)) s) ⌝ }
+    ensures { λ r. ⌜ Bounded (now (text .entry)) r × (left (now (text .entry)) r < left (now (text .entry)) s) ⌝ }
+{
+    let e = work_rows::get(work, DUE_BASE + s.top - 1);
+    if e % 8 == 7 {
+        close(work, e / 1024, s.rows);
+        return Progress {
+            at: s.at,
+            rows: s.rows,
+            top: s.top - 1,
+            refusal: 0,
+        };
+    }
+    take(text, work, s, e)
+}
+
+// Turn after turn, until nothing is due.
+fn turns(text: &[u8], work: &mut [u32], first: Progress) -> Progress
+    requires { ⌜ Bounded (now text) first ⌝ }
+    ensures { λ r. ⌜ ((x : Machine) → Turns (now (text .entry)) (machine (now (work .entry)) first) x → machine (now (work .exit)) r ≡ x) ⌝ }
+    ensures { λ r. ⌜ Bounded (now (text .entry)) r ⌝ }
+{
+    let mut s = first;
+    while 0 < s.top {
+        s = turn(text, work, s);
+    }
+    s
+}
+
+// The answer, when nothing is due any more: refusal 4 where a line is left. A refusal names the next line.
+fn answer(text: &[u8], globals: usize, s: Progress) -> Read
+    requires { ⌜ s .rows ≤ 4096 ⌝ }
+    ensures { λ r. ⌜ r ≡ answerAt (now (text .entry)) globals s ⌝ }
+{
+    let line = s.rows + 2;
+    if s.refusal != 0 {
+        return Read::Refused {
+            number: s.refusal,
+            line: line,
+        };
+    }
+    if s.at < text.len() {
+        return Read::Refused {
+            number: 4,
+            line: line,
+        };
+    }
+    Read::Tree {
+        globals: globals,
+        lines: s.rows,
+    }
+}
+
+// Reads the lines after the first, which has these counts and ends before an offset.
+fn rest(text: &[u8], work: &mut [u32], globals: usize, stmts: usize, at: usize) -> Read
+    requires { ⌜ (length (now text) ≤ 65536) × (16384 ≤ length (now work)) × (globals ≤ 4096) × (stmts ≤ 4096) ⌝ }
+    requires { ⌜ (skip 1 0 (now text) ≡ at) × (at ≤ length (now text)) ⌝ }
+    ensures { λ r. ⌜ Answers (now (text .entry)) (ended (after globals stmts (restAt (now (text .entry)) at 2))) (now (work .exit)) r ⌝ }
+{
+    read_names::clear(work);
+    let t = push(work, 0, 5, stmts, DEEPEST);
+    let top = push(work, t, 1, globals, DEEPEST);
+    let s = turns(
+        text,
+        work,
+        Progress {
+            at: at,
+            rows: 0,
+            top: top,
+            refusal: 0,
+        },
+    );
+    answer(text, globals, s)
+}
+
+// Reads a tree text: any bytes, any work buffer, whatever it holds.
+pub fn read_tree(text: &[u8], work: &mut [u32]) -> Read
+    ensures { λ r. ⌜ Answers (now (text .entry)) (reading (now (text .entry)) (length (now (work .entry)))) (now (work .exit)) r ⌝ }
+{
+    if LONGEST_TEXT < text.len() {
+        return Read::Refused { number: 1, line: 0 };
+    }
+    if work.len() < SHORTEST_WORK {
+        return Read::Refused { number: 2, line: 0 };
+    }
+    let first = line_due(text, 0, 0, 1, 1);
+    if first.refusal != 0 {
+        return Read::Refused {
+            number: first.refusal,
+            line: 1,
+        };
+    }
+    let l = first.line;
+    rest(
+        text,
+        work,
+        work_rows::wide(l.count0),
+        work_rows::wide(l.count1),
+        l.next,
+    )
+}

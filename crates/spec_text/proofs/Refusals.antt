@@ -1,0 +1,62 @@
+-- What a refusal carries: 1 and 2 no line, 3 to 7 the number of a line, from 1 on.
+-- The whole text is read by readers that are `Fine`, so one theorem, `reading-fits`, says it of refusals and what holds of a tree.
+use Prim.Native.Nat.{ℕ, _+_, _≤_}
+use native.Mathlib.Omega.{arith}
+use mathlib.Core.Path.{_≡_, refl}
+use mathlib.Core.Bool.{Bool, true, false, cond, _&&_}
+use mathlib.Core.List.{[], _∷_}
+use lib.Dec.{eqb, leb, ltb}
+use lib.ListN.{length}
+use borrow.Author.Tests.{ltb-false, le-leb, lt-leb}
+use Rattle.spec_text.specs.Bytes.{Bytes, between}
+use Rattle.spec_text.specs.Tree.{Tree, lenSs}
+use Rattle.spec_text.specs.Lines.{Form, asSort, countAt}
+use Rattle.spec_text.specs.Reading.{longestText, mostLines, deepest, shortestWork, Read, Reading, tree, refusal, ended, readTree, reading}
+use Rattle.spec_text.proofs.Lists.{All}
+use Rattle.spec_text.proofs.Parts.{IsNameOf, LineIn}
+use Rattle.spec_text.proofs.Shape.{depthSs, EachSs}
+use Rattle.spec_text.proofs.Fine.{Fine, fine-got, fine-refused, fine-then, line-then, Good, IsLineNumber}
+use Rattle.spec_text.proofs.Levels.{stmts-fine, stmt-fine, globals-fine}
+
+-- "1 to 7 carry a line number from 1 (0 for 1 and 2)"
+abbrev pub refusalOk : ℕ → ℕ → Bool
+refusalOk k n = between 1 7 k && cond (leb k 2) (eqb n 0) (between 1 4_098 n)
+
+-- a tree that was read: its lines are within the limits, and what they hold is a part of the text
+pub record TreeFits (text : Bytes) (t : Tree) : Type 0 where
+  pub count : length (t .globals) + lenSs (t .body) ≤ mostLines
+  pub deep : depthSs (t .body) ≤ deepest
+  pub globals : All (IsNameOf text) (t .globals)
+  pub lines : EachSs (LineIn text) (t .body)
+
+abbrev pub ReadingFits : Bytes → Reading → Type 0
+ReadingFits text (tree t) = TreeFits text t × (length text ≤ longestText)
+ReadingFits text (refusal k n) = refusalOk k n ≡ true
+
+line-refusal : (k n : ℕ) → 3 ≤ k → k ≤ 7 → IsLineNumber n → refusalOk k n ≡ true
+line-refusal k n h i l = rw (le-leb 1 k (omega arith), le-leb k 7 i, lt-leb k 2 h, le-leb 1 n (l .first), le-leb n 4_098 (l .last))
+
+ended-fits : (text : Bytes) → length text ≤ longestText → {x : Read Tree} → Fine (λ t left. TreeFits text t × Good text left) x → ReadingFits text (ended x)
+ended-fits text s (fine-got {a} {r} p) = go (r .bytes)
+  where
+    go : (bs : Bytes) → ReadingFits text (elim bs [ [] ↦ tree a | b ∷ bs ↦ refusal 4 (r .number) ])
+    go [] = (p .0, s)
+    go (b ∷ bs) = line-refusal 4 (r .number) (omega arith) (omega arith) (p .1 .number)
+ended-fits text s (fine-refused k {n} h l) = line-refusal k n (h .0) (h .1) l
+
+tree-fits : (text : Bytes) → length text ≤ longestText → ReadingFits text (readTree text)
+tree-fits text s =
+    let g : Good text (record { bytes = text; offset = 0; number = 1 }) = record { here = refl; within = omega arith; number = omega arith } in
+    ended-fits text s (line-then text (asSort Form.tree) 0 (record { bytes = text; offset = 0; number = 1 }) g _ (λ i p r h.
+    fine-then (globals-fine text (countAt 0 p) r (h .good)) (λ gs r a.
+    fine-then (stmts-fine text (stmt-fine text deepest) (countAt 1 p) r (a .good)) (λ ss r b.
+    fine-got (record { count = omega arith; deep = b .deep; globals = a .holds; lines = b .holds }, b .good)))))
+
+pub reading-fits : (text : Bytes) (work : ℕ) → ReadingFits text (reading text work)
+reading-fits text work = go (ltb longestText (length text)) (ltb work shortestWork) refl
+  where
+    go : (a b : Bool) → ltb longestText (length text) ≡ a
+        → ReadingFits text (elim a [ true ↦ refusal 1 0 | false ↦ elim b [ true ↦ refusal 2 0 | false ↦ readTree text ] ])
+    go true b e = refl
+    go false true e = refl
+    go false false e = tree-fits text (ltb-false longestText (length text) e)

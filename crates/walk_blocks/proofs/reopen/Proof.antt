@@ -1,0 +1,26 @@
+-- The test for a def.
+use borrow.Author.Needs.{needs}
+use Rattle.walk_blocks.proofs.Laws.{reopen-def, reopen-plain}
+use Rattle.walk_blocks.proofs.reopen.Statement.{statement}
+use Rattle.walk_blocks.proofs.reopen.Tie as tie
+
+open-requires : tie.Need-open-requires
+open-requires c κs = search needs
+
+same-length : tie.Need-same-length
+same-length c = search needs
+
+returns : tie.Need-returns
+returns c =
+    let o = c .before .before in
+    let i = o .before .before in
+    let a = i .before .before .before .before .args in
+    reopen-def (a .text .now) (a .s) (a .work .now) (i .if1 .taken) _ (o .«open» .ensures)
+
+returns-2 : tie.Need-returns-2
+returns-2 c =
+    let a = c .before .before .before .before .args in
+    reopen-plain (a .text .now) (a .s) (a .work .now) (c .if1 .left)
+
+pub reopen-spec : {M : Type 1} → statement M
+reopen-spec = tie.close (tie.spec open-requires same-length returns returns-2)

@@ -1,0 +1,54 @@
+// The way into a block: its parameters are bound, and a def's own names are noted.
+use walk_scopes::DEF;
+use walk_scopes::ScopeStack;
+ghost use mathlib.Core.Path.{_≡_};
+ghost use Prim.Native.Nat.{_<_, _≤_};
+ghost use Rattle.read_row.specs.Again.{paramsOf};
+ghost use Rattle.walk_blocks.specs.Blocks.{enteredOne, entered, opened, reopened};
+
+// Binds a parameter.
+fn enter_one(text: &[u8], work: &mut [u32], s: ScopeStack, name: &[u8])
+    requires { ⌜ s .block < 4294967295 ⌝ }
+    ensures { λ _. ⌜ now (work .exit) ≡ enteredOne (now (text .entry)) s (now (name .entry)) (now (work .entry)) ⌝ }
+{
+    let a = read_names::row_of(text, work, name);
+    s.define(work, a);
+    if s.owns() {
+        walk_own_names::note(work, s.block, a, s.block + 1);
+    }
+}
+
+// Binds the parameters of row i.
+fn enter(text: &[u8], work: &mut [u32], s: ScopeStack, i: usize)
+    requires { ⌜ (i < 4294967296) × (s .block < 4294967295) ⌝ }
+    ensures { λ _. ⌜ now (work .exit) ≡ entered (now (text .entry)) s (paramsOf (now (text .entry)) (now (work .entry)) i) (now (work .entry)) ⌝ }
+{
+    let mut c = read_row::params(text, work, i);
+    while c.more {
+        let name = read_row::field(text, c.at);
+        let end = c.at + name.len();
+        enter_one(text, work, s, name);
+        c = read_row::next(text, end);
+    }
+}
+
+// Into the block of row i, up to the row stop: binds its parameters, and notes a def's own names.
+pub fn open(text: &[u8], work: &mut [u32], s: ScopeStack, i: usize, stop: usize)
+    requires { ⌜ (i ≤ 4096) × (s .block < 4294967295) × (stop ≤ 16384) ⌝ }
+    ensures { λ _. ⌜ now (work .exit) ≡ opened (now (text .entry)) s i stop (now (work .entry)) ⌝ }
+{
+    enter(text, work, s, i);
+    if s.owns() {
+        walk_own_names::note_rows(work, s.block, i + 1, stop);
+    }
+}
+
+// Back in a block: notes a def's own names again, as a def in it has noted others.
+pub fn reopen(text: &[u8], work: &mut [u32], s: ScopeStack)
+    requires { ⌜ (s .block ≤ 4096) × (s .end ≤ 16384) ⌝ }
+    ensures { λ _. ⌜ now (work .exit) ≡ reopened (now (text .entry)) s (now (work .entry)) ⌝ }
+{
+    if s.home == DEF {
+        open(text, work, s, s.block, s.end);
+    }
+}

@@ -1,0 +1,70 @@
+// What the walk begins with: all marks, slots and stamps are forgotten, and the given names are bound in the module.
+use walk_scopes::ScopeStack;
+use work_marks::MARKS;
+use work_rows::DUE_BASE;
+use work_rows::HEAD_BASE;
+ghost use mathlib.Core.Path.{_≡_};
+ghost use Prim.Native.Nat.{_<_, _≤_};
+ghost use Rattle.walk_builtins.specs.Table.{names, Rule};
+ghost use Rattle.walk_given.specs.Given.{fresh, given, globalsFrom, begun};
+
+// Forgets all marks, slots and stamps of the rows.
+fn clear(work: &mut [u32], rows: usize)
+    requires { ⌜ rows ≤ 4096 ⌝ }
+    ensures { λ _. ⌜ now (work .exit) ≡ fresh rows 0 (now (work .entry)) ⌝ }
+{
+    let mut i = 0;
+    while i < rows {
+        let head = work_rows::get(work, HEAD_BASE + i) % MARKS;
+        work_rows::put(work, HEAD_BASE + i, head);
+        work_rows::put(work, DUE_BASE + i, 0);
+        i += 1;
+    }
+}
+
+// Binds the names that lengths cuts from bytes.
+fn define_names(text: &[u8], work: &mut [u32], s: ScopeStack, bytes: &[u8], lengths: &[u8])
+    requires { ⌜ Rule (now lengths) (now bytes) ⌝ }
+    ensures { λ _. ⌜ now (work .exit) ≡ given (now (text .entry)) s names (now (work .entry)) ⌝ }
+{
+    let mut at = 0;
+    let mut k = 0;
+    while k < lengths.len() {
+        let end = at + lengths[k] as usize;
+        let name = read_names::row_of(text, work, &bytes[at..end]);
+        s.define(work, name);
+        at = end;
+        k += 1;
+    }
+}
+
+// Binds the built-in names.
+fn define_builtins(text: &[u8], work: &mut [u32], s: ScopeStack)
+    ensures { λ _. ⌜ now (work .exit) ≡ given (now (text .entry)) s names (now (work .entry)) ⌝ }
+{
+    let bytes = walk_builtins::BYTES;
+    let lengths = walk_builtins::LENGTHS;
+    define_names(text, work, s, &bytes, &lengths)
+}
+
+// Binds the names of the `global` lines.
+fn define_globals(work: &mut [u32], s: ScopeStack, globals: usize)
+    requires { ⌜ globals ≤ 4096 ⌝ }
+    ensures { λ _. ⌜ now (work .exit) ≡ globalsFrom globals 0 s (now (work .entry)) ⌝ }
+{
+    let mut i = 0;
+    while i < globals {
+        s.define(work, work_rows::number(work, i));
+        i += 1;
+    }
+}
+
+// Before the first statement of so many rows, of which so many are `global` lines.
+pub fn begin(text: &[u8], work: &mut [u32], s: ScopeStack, globals: usize, rows: usize)
+    requires { ⌜ (globals ≤ 4096) × (rows ≤ 4096) ⌝ }
+    ensures { λ _. ⌜ now (work .exit) ≡ begun (now (text .entry)) s globals rows (now (work .entry)) ⌝ }
+{
+    clear(work, rows);
+    define_builtins(text, work, s);
+    define_globals(work, s, globals)
+}

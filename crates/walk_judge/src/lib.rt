@@ -1,0 +1,62 @@
+// Judges a read: the kind of its fault goes to its row's slot.
+use walk_scopes::DEF;
+use walk_scopes::MODULE;
+use walk_scopes::ScopeStack;
+use work_marks::MARKS;
+ghost use mathlib.Core.Path.{_≡_};
+ghost use Prim.Native.Nat.{_<_};
+ghost use Rattle.walk_judge.specs.Judged.{unboundKind, undefinedKind, faulted, readOf};
+
+// The kind of a fault of an own name that is not assigned.
+fn unbound_kind(s: ScopeStack, called: bool) -> usize
+    ensures { λ r. ⌜ r ≡ unboundKind s called ⌝ }
+{
+    if s.outer != 0 {
+        return 13;
+    }
+    if called { 12 } else { 11 }
+}
+
+// The kind of a fault of a name that is not in view.
+fn undefined_kind(s: ScopeStack, called: bool) -> usize
+    ensures { λ r. ⌜ r ≡ undefinedKind s called ⌝ }
+{
+    if s.outer != 0 {
+        if s.home == MODULE {
+            return 10;
+        }
+    }
+    if called { 9 } else { 8 }
+}
+
+// Row i has a fault of this kind. A name that a lambda is blamed for counts as its parameter from there on: it is blamed once.
+fn fault(work: &mut [u32], s: ScopeStack, name: usize, i: usize, kind: usize)
+    requires { ⌜ i < 4294967296 ⌝ }
+    ensures { λ _. ⌜ now (work .exit) ≡ faulted s name i kind (now (work .entry)) ⌝ }
+{
+    work_marks::put_slot(work, i, kind);
+    if kind == 10 || kind == 13 {
+        work_marks::raise_lambda(work, name, s.outer);
+    }
+}
+
+// Judges the read at row i, of a name.
+pub fn read(work: &mut [u32], s: ScopeStack, called: bool, name: usize, i: usize)
+    requires { ⌜ (i < 4294967296) × (name < 4294967296) × (s .block < 4294967296) ⌝ }
+    ensures { λ _. ⌜ now (work .exit) ≡ readOf s called name i (now (work .entry)) ⌝ }
+{
+    if i < work_marks::lambda_end(work, name) {
+        return;
+    }
+    let stamp = work_marks::stamp(work, name);
+    if s.home == DEF && stamp / MARKS == s.block + 1 {
+        if i < stamp % MARKS {
+            fault(work, s, name, i, unbound_kind(s, called));
+        }
+        return;
+    }
+    if s.is_defined(work, name, i) {
+        return;
+    }
+    fault(work, s, name, i, undefined_kind(s, called))
+}

@@ -1,0 +1,72 @@
+// Gathers a def's own names: each is stamped with the def, and with the first row from which it is assigned.
+use work_marks::MARKS;
+use work_rows::ROWS_MOST;
+ghost use mathlib.Core.Path.{_≡_};
+ghost use Prim.Native.Nat.{_<_, _≤_};
+ghost use Rattle.walk_own_names.specs.Own.{noted, rowNoted, nextNoted, allNoted};
+
+// A row that no read is at or after.
+const NEVER: usize = 8191;
+
+// The def at row b has the name of its own, assigned from a row on.
+pub fn note(work: &mut [u32], b: usize, name: usize, from: usize)
+    requires { ⌜ b < 4294967296 ⌝ }
+    ensures { λ _. ⌜ now (work .exit) ≡ noted b name from (now (work .entry)) ⌝ }
+{
+    if name < ROWS_MOST {
+        let stamp = work_marks::stamp(work, name);
+        if stamp / MARKS == b + 1 {
+            if stamp % MARKS <= from {
+                return;
+            }
+        }
+        work_marks::put_stamp(work, name, MARKS * (b + 1) + from % MARKS);
+    }
+}
+
+// Notes what row i binds.
+fn note_row(work: &mut [u32], b: usize, i: usize)
+    requires { ⌜ (b < 4294967296) × (i ≤ 16384) ⌝ }
+    ensures { λ _. ⌜ now (work .exit) ≡ rowNoted b i (now (work .entry)) ⌝ }
+{
+    match work_rows::kind(work, i) {
+        5 => note(work, b, work_rows::number(work, i), NEVER), // def
+        13 => note(work, b, work_rows::number(work, i), NEVER), // class
+        10 => note(
+            work,
+            b,
+            work_rows::number(work, i),
+            work_marks::after_row(work, i + 1),
+        ), // for
+        17 => note(work, b, work_rows::number(work, i), i + 1), // var
+        _ => {}
+    }
+}
+
+// The next row to look at.
+fn next_row(work: &[u32], i: usize) -> usize
+    requires { ⌜ i ≤ 16384 ⌝ }
+    ensures { λ r. ⌜ (r ≡ nextNoted (now (work .entry)) i) × (i < r) ⌝ }
+{
+    let kind = work_rows::kind(work, i);
+    if 6 <= kind && kind <= 10 {
+        return work_marks::after_row(work, i + 1);
+    }
+    if kind == 24 {
+        return i + 1;
+    }
+    work_marks::after_row(work, i)
+}
+
+// Notes what the rows bind in the block of the def at row b.
+pub fn note_rows(work: &mut [u32], b: usize, first: usize, stop: usize)
+    requires { ⌜ (b < 4294967296) × (stop ≤ 16384) ⌝ }
+    ensures { λ _. ⌜ now (work .exit) ≡ allNoted b first stop (now (work .entry)) ⌝ }
+{
+    let mut at = first;
+    while at < stop {
+        let next = next_row(work, at);
+        note_row(work, b, at);
+        at = next;
+    }
+}

@@ -1,0 +1,1143 @@
+-- The cycle of calls. Each member's measure is eight times the lines left, and its rank: a call that spends a line may go to any member, and a
+-- call that spends none goes to a lower rank. The loops' invariant: what is left of the rows gives what is wanted.
+use Prim.Native.Nat.{ℕ, _+_, _*_, _-_, _<_}
+use native.Mathlib.Omega.{arith}
+use mathlib.Core.Path.{_≡_, refl, sym, _∙_}
+use mathlib.Core.Bool.{false}
+use lib.ListN.{length}
+use Rattle.work_marks.specs.Marks.{afterRow}
+use Rattle.work_marks.specs.Loops.{rowsTo}
+use Rattle.work_marks.proofs.Loops.{rows-end, rows-turn}
+use Rattle.walk_tree.specs.Walk.{nextTarget, targetAt, walkExpr, walkLine, walkExprs, walkStmts}
+use Rattle.walk_tree.proofs.Laws.{
+  after-on,
+  target-on,
+  number-small,
+  scoped,
+  target-var,
+  target-tuple,
+  target-index,
+  target-get,
+  target-none,
+  line-stmt,
+  line-expr,
+  block-lines,
+  expr-none,
+  expr-far,
+  expr-var,
+  expr-call,
+  expr-lambda,
+  expr-other,
+  stmt-none,
+  stmt-far,
+  stmt-attr,
+  stmt-inner-class,
+  stmt-class,
+  stmt-def,
+  stmt-method,
+  stmt-assign,
+  stmt-for,
+  stmt-other,
+}
+use borrow.Fn.Kinds.{In}
+use borrow.Fn.PlainCycle.{Measures, is, falls, and}
+use Rattle.walk_tree.proofs.walk_block.Reads as walk-block
+use Rattle.walk_tree.proofs.walk_block.Kinds as walk-block-kinds
+use Rattle.walk_tree.proofs.+walk_block+walk_expr+walk_exprs+walk_stmt+walk_stmts+walk_target+walk_targets.Lts-walk_block as walk-block-lts
+use Rattle.walk_tree.proofs.walk_expr.Reads as walk-expr
+use Rattle.walk_tree.proofs.walk_expr.Kinds as walk-expr-kinds
+use Rattle.walk_tree.proofs.+walk_block+walk_expr+walk_exprs+walk_stmt+walk_stmts+walk_target+walk_targets.Lts-walk_expr as walk-expr-lts
+use Rattle.walk_tree.proofs.walk_exprs.Reads as walk-exprs
+use Rattle.walk_tree.proofs.walk_exprs.Kinds as walk-exprs-kinds
+use Rattle.walk_tree.proofs.+walk_block+walk_expr+walk_exprs+walk_stmt+walk_stmts+walk_target+walk_targets.Lts-walk_exprs as walk-exprs-lts
+use Rattle.walk_tree.proofs.walk_stmt.Reads as walk-stmt
+use Rattle.walk_tree.proofs.walk_stmt.Kinds as walk-stmt-kinds
+use Rattle.walk_tree.proofs.+walk_block+walk_expr+walk_exprs+walk_stmt+walk_stmts+walk_target+walk_targets.Lts-walk_stmt as walk-stmt-lts
+use Rattle.walk_tree.proofs.walk_stmts.Reads as walk-stmts
+use Rattle.walk_tree.proofs.walk_stmts.Kinds as walk-stmts-kinds
+use Rattle.walk_tree.proofs.+walk_block+walk_expr+walk_exprs+walk_stmt+walk_stmts+walk_target+walk_targets.Lts-walk_stmts as walk-stmts-lts
+use Rattle.walk_tree.proofs.walk_target.Reads as walk-target
+use Rattle.walk_tree.proofs.walk_target.Kinds as walk-target-kinds
+use Rattle.walk_tree.proofs.+walk_block+walk_expr+walk_exprs+walk_stmt+walk_stmts+walk_target+walk_targets.Lts-walk_target as walk-target-lts
+use Rattle.walk_tree.proofs.walk_targets.Reads as walk-targets
+use Rattle.walk_tree.proofs.walk_targets.Kinds as walk-targets-kinds
+use Rattle.walk_tree.proofs.+walk_block+walk_expr+walk_exprs+walk_stmt+walk_stmts+walk_target+walk_targets.Lts-walk_targets as walk-targets-lts
+use Rattle.walk_blocks.proofs.open.Reads as open-reads
+use Rattle.walk_blocks.proofs.reopen.Reads as reopen-reads
+use Rattle.walk_judge.proofs.read.Reads as read-reads
+use Rattle.work_marks.proofs.after_row.Reads as after-row-reads
+use Rattle.work_marks.proofs.put_slot.Reads as put-slot-reads
+use Rattle.work_rows.proofs.kind.Reads as kind-reads
+use Rattle.work_rows.proofs.number.Reads as number-reads
+use Rattle.walk_scopes.proofs.ScopeStack.define.Reads as define-reads
+use Rattle.walk_scopes.proofs.ScopeStack.pop.Reads as pop-reads
+use Rattle.walk_scopes.proofs.ScopeStack.push.Reads as push-reads
+use Rattle.walk_scopes.proofs.ScopeStack.push_lambda.Reads as push-lambda-reads
+use Rattle.walk_tree.proofs.judge_method.Reads as judge-method-reads
+use Rattle.walk_tree.proofs.next_target.Reads as next-target-reads
+use Rattle.walk_tree.proofs.+walk_block+walk_expr+walk_exprs+walk_stmt+walk_stmts+walk_target+walk_targets.{
+  statement,
+}
+use Rattle.walk_tree.proofs.+walk_block+walk_expr+walk_exprs+walk_stmt+walk_stmts+walk_target+walk_targets.Tie.{
+  close,
+}
+
+abbrev μ-walk-block : Measures 2 walk-block-kinds.ps ℕ
+μ-walk-block κs a = 8 * (a .1 .1 .0) + 4
+
+abbrev μ-walk-expr : Measures 2 walk-expr-kinds.ps ℕ
+μ-walk-expr κs a = 8 * (a .1 .1 .0)
+
+abbrev μ-walk-exprs : Measures 2 walk-exprs-kinds.ps ℕ
+μ-walk-exprs κs a = 8 * (a .1 .1 .0) + 2
+
+abbrev μ-walk-stmt : Measures 2 walk-stmt-kinds.ps ℕ
+μ-walk-stmt κs a = 8 * (a .1 .1 .0) + 1
+
+abbrev μ-walk-stmts : Measures 2 walk-stmts-kinds.ps ℕ
+μ-walk-stmts κs a = 8 * (a .1 .1 .0) + 3
+
+abbrev μ-walk-target : Measures 2 walk-target-kinds.ps ℕ
+μ-walk-target κs a = 8 * (a .1 .1 .0) + 4
+
+abbrev μ-walk-targets : Measures 2 walk-targets-kinds.ps ℕ
+μ-walk-targets κs a = 8 * (a .1 .1 .0) + 5
+
+abbrev walk-block-at : ℕ → In 2 walk-block-kinds.ps
+walk-block-at t =
+    and 2 walk-block-kinds.ps (is 2 walk-block-kinds.ps μ-walk-block t) walk-block.Pre
+
+abbrev walk-block-below : ℕ → In 2 walk-block-kinds.ps
+walk-block-below t =
+    and 2 walk-block-kinds.ps (falls 2 walk-block-kinds.ps _<_ μ-walk-block t) walk-block.Pre
+
+abbrev walk-expr-at : ℕ → In 2 walk-expr-kinds.ps
+walk-expr-at t = and 2 walk-expr-kinds.ps (is 2 walk-expr-kinds.ps μ-walk-expr t) walk-expr.Pre
+
+abbrev walk-expr-below : ℕ → In 2 walk-expr-kinds.ps
+walk-expr-below t =
+    and 2 walk-expr-kinds.ps (falls 2 walk-expr-kinds.ps _<_ μ-walk-expr t) walk-expr.Pre
+
+abbrev walk-exprs-at : ℕ → In 2 walk-exprs-kinds.ps
+walk-exprs-at t =
+    and 2 walk-exprs-kinds.ps (is 2 walk-exprs-kinds.ps μ-walk-exprs t) walk-exprs.Pre
+
+abbrev walk-exprs-below : ℕ → In 2 walk-exprs-kinds.ps
+walk-exprs-below t =
+    and 2 walk-exprs-kinds.ps (falls 2 walk-exprs-kinds.ps _<_ μ-walk-exprs t) walk-exprs.Pre
+
+abbrev walk-stmt-at : ℕ → In 2 walk-stmt-kinds.ps
+walk-stmt-at t = and 2 walk-stmt-kinds.ps (is 2 walk-stmt-kinds.ps μ-walk-stmt t) walk-stmt.Pre
+
+abbrev walk-stmt-below : ℕ → In 2 walk-stmt-kinds.ps
+walk-stmt-below t =
+    and 2 walk-stmt-kinds.ps (falls 2 walk-stmt-kinds.ps _<_ μ-walk-stmt t) walk-stmt.Pre
+
+abbrev walk-stmts-at : ℕ → In 2 walk-stmts-kinds.ps
+walk-stmts-at t =
+    and 2 walk-stmts-kinds.ps (is 2 walk-stmts-kinds.ps μ-walk-stmts t) walk-stmts.Pre
+
+abbrev walk-stmts-below : ℕ → In 2 walk-stmts-kinds.ps
+walk-stmts-below t =
+    and 2 walk-stmts-kinds.ps (falls 2 walk-stmts-kinds.ps _<_ μ-walk-stmts t) walk-stmts.Pre
+
+abbrev walk-target-at : ℕ → In 2 walk-target-kinds.ps
+walk-target-at t =
+    and 2 walk-target-kinds.ps (is 2 walk-target-kinds.ps μ-walk-target t) walk-target.Pre
+
+abbrev walk-target-below : ℕ → In 2 walk-target-kinds.ps
+walk-target-below t =
+    and 2 walk-target-kinds.ps (falls 2 walk-target-kinds.ps _<_ μ-walk-target t) walk-target.Pre
+
+abbrev walk-targets-at : ℕ → In 2 walk-targets-kinds.ps
+walk-targets-at t =
+    and 2 walk-targets-kinds.ps (is 2 walk-targets-kinds.ps μ-walk-targets t) walk-targets.Pre
+
+abbrev walk-targets-below : ℕ → In 2 walk-targets-kinds.ps
+walk-targets-below t =
+    and
+    2
+    walk-targets-kinds.ps
+    (falls 2 walk-targets-kinds.ps _<_ μ-walk-targets t)
+    walk-targets.Pre
+
+-- ---- walk_block
+abbrev walk-block-calls : ℕ → walk-block-lts.Claims
+walk-block-calls t = (open-reads.Asked, open-reads.Learnt, walk-stmts-below t, walk-stmts.Post)
+
+walk-block-open-requires : (t : ℕ) → walk-block-lts.Need-open-requires (walk-block-calls t) (walk-block-at t) walk-block.Post
+walk-block-open-requires t c κs = omega arith
+
+walk-block-add-walk-stmts : (t : ℕ) → walk-block-lts.Need-add-walk-stmts (walk-block-calls t) (walk-block-at t) walk-block.Post
+walk-block-add-walk-stmts t c = omega arith
+
+walk-block-walk-stmts-requires : (t : ℕ) → walk-block-lts.Need-walk-stmts-requires (walk-block-calls t) (walk-block-at t) walk-block.Post
+walk-block-walk-stmts-requires t c κs = omega arith
+
+walk-block-same-length : (t : ℕ) → walk-block-lts.Need-same-length (walk-block-calls t) (walk-block-at t) walk-block.Post
+walk-block-same-length t c =
+    let w = c .before .before in
+    let o = w .before .before .before .before in
+    w .walk-stmts .kept .1 .0 ∙ o .«open» .kept .1 .0
+
+walk-block-returns : (t : ℕ) → walk-block-lts.Need-returns (walk-block-calls t) (walk-block-at t) walk-block.Post
+walk-block-returns t c =
+    let w = c .before .before in
+    let o = w .before .before .before .before in
+    block-lines _ _ _ _ _ _ _ (o .«open» .ensures) (w .walk-stmts .ensures)
+
+-- ---- walk_expr
+abbrev walk-expr-calls : ℕ → walk-expr-lts.Claims
+walk-expr-calls t = (
+  after-row-reads.Asked,
+  after-row-reads.Learnt,
+  kind-reads.Asked,
+  kind-reads.Learnt,
+  number-reads.Asked,
+  number-reads.Learnt,
+  read-reads.Asked,
+  read-reads.Learnt,
+  walk-expr-below t,
+  walk-expr.Post,
+  walk-exprs-below t,
+  walk-exprs.Post,
+  push-lambda-reads.Asked,
+  push-lambda-reads.Learnt,
+  open-reads.Asked,
+  open-reads.Learnt,
+  walk-stmts-below t,
+  walk-stmts.Post,
+)
+
+walk-expr-returns : (t : ℕ) → walk-expr-lts.Need-returns (walk-expr-calls t) (walk-expr-at t) walk-expr.Post
+walk-expr-returns t c = expr-none _ _ _ _ _ _ (c .if1 .taken)
+
+walk-expr-returns-2 : (t : ℕ) → walk-expr-lts.Need-returns-2 (walk-expr-calls t) (walk-expr-at t) walk-expr.Post
+walk-expr-returns-2 t c =
+    let i = c .before in
+    expr-far _ _ _ _ _ _ (i .if1 .left) (c .if2 .taken)
+
+walk-expr-after-row-requires : (t : ℕ) → walk-expr-lts.Need-after-row-requires (walk-expr-calls t) (walk-expr-at t) walk-expr.Post
+walk-expr-after-row-requires t c κs = omega arith
+
+walk-expr-kind-requires : (t : ℕ) → walk-expr-lts.Need-kind-requires (walk-expr-calls t) (walk-expr-at t) walk-expr.Post
+walk-expr-kind-requires t c κs = tt
+
+walk-expr-number-requires : (t : ℕ) → walk-expr-lts.Need-number-requires (walk-expr-calls t) (walk-expr-at t) walk-expr.Post
+walk-expr-number-requires t c κs = omega arith
+
+walk-expr-read-requires : (t : ℕ) → walk-expr-lts.Need-read-requires (walk-expr-calls t) (walk-expr-at t) walk-expr.Post
+walk-expr-read-requires t c κs =
+    let a = c .before .before .before .before .before .before .before .before .before .before .before .before .args in
+    omega (arith, c .number .ensures, number-small (a .work .now) (a .i) (omega arith))
+
+walk-expr-add-after-row : (t : ℕ) → walk-expr-lts.Need-add-after-row (walk-expr-calls t) (walk-expr-at t) walk-expr.Post
+walk-expr-add-after-row t c = omega arith
+
+walk-expr-after-row-requires-2 : (t : ℕ) → walk-expr-lts.Need-after-row-requires-2 (walk-expr-calls t) (walk-expr-at t) walk-expr.Post
+walk-expr-after-row-requires-2 t c κs = omega arith
+
+walk-expr-sub-walk-expr : (t : ℕ) → walk-expr-lts.Need-sub-walk-expr (walk-expr-calls t) (walk-expr-at t) walk-expr.Post
+walk-expr-sub-walk-expr t c = omega arith
+
+walk-expr-add-walk-expr : (t : ℕ) → walk-expr-lts.Need-add-walk-expr (walk-expr-calls t) (walk-expr-at t) walk-expr.Post
+walk-expr-add-walk-expr t c = omega arith
+
+walk-expr-walk-expr-requires : (t : ℕ) → walk-expr-lts.Need-walk-expr-requires (walk-expr-calls t) (walk-expr-at t) walk-expr.Post
+walk-expr-walk-expr-requires t c κs = omega arith
+
+walk-expr-sub-walk-exprs : (t : ℕ) → walk-expr-lts.Need-sub-walk-exprs (walk-expr-calls t) (walk-expr-at t) walk-expr.Post
+walk-expr-sub-walk-exprs t c = omega arith
+
+walk-expr-walk-exprs-requires : (t : ℕ) → walk-expr-lts.Need-walk-exprs-requires (walk-expr-calls t) (walk-expr-at t) walk-expr.Post
+walk-expr-walk-exprs-requires t c κs = omega arith
+
+walk-expr-push-lambda-requires : (t : ℕ) → walk-expr-lts.Need-push-lambda-requires (walk-expr-calls t) (walk-expr-at t) walk-expr.Post
+walk-expr-push-lambda-requires t c κs = tt
+
+walk-expr-open-requires : (t : ℕ) → walk-expr-lts.Need-open-requires (walk-expr-calls t) (walk-expr-at t) walk-expr.Post
+walk-expr-open-requires t c κs =
+    let p = c .before in
+    omega (arith, scoped (p .push-lambda .ensures))
+
+walk-expr-sub-walk-stmts : (t : ℕ) → walk-expr-lts.Need-sub-walk-stmts (walk-expr-calls t) (walk-expr-at t) walk-expr.Post
+walk-expr-sub-walk-stmts t c = omega arith
+
+walk-expr-add-walk-stmts : (t : ℕ) → walk-expr-lts.Need-add-walk-stmts (walk-expr-calls t) (walk-expr-at t) walk-expr.Post
+walk-expr-add-walk-stmts t c = omega arith
+
+walk-expr-walk-stmts-requires : (t : ℕ) → walk-expr-lts.Need-walk-stmts-requires (walk-expr-calls t) (walk-expr-at t) walk-expr.Post
+walk-expr-walk-stmts-requires t c κs =
+    let p = c .before .before .before .before .before in
+    let o = p .before .before .before .before .before .before .before .before .before .before in
+    omega (arith, o .pre .0, o .pre .1, scoped (p .push-lambda .ensures))
+
+walk-expr-sub-walk-exprs-2 : (t : ℕ) → walk-expr-lts.Need-sub-walk-exprs-2 (walk-expr-calls t) (walk-expr-at t) walk-expr.Post
+walk-expr-sub-walk-exprs-2 t c = omega arith
+
+walk-expr-add-walk-exprs : (t : ℕ) → walk-expr-lts.Need-add-walk-exprs (walk-expr-calls t) (walk-expr-at t) walk-expr.Post
+walk-expr-add-walk-exprs t c = omega arith
+
+walk-expr-walk-exprs-requires-2 : (t : ℕ) → walk-expr-lts.Need-walk-exprs-requires-2 (walk-expr-calls t) (walk-expr-at t) walk-expr.Post
+walk-expr-walk-exprs-requires-2 t c κs = omega arith
+
+walk-expr-same-length : (t : ℕ) → walk-expr-lts.Need-same-length (walk-expr-calls t) (walk-expr-at t) walk-expr.Post
+walk-expr-same-length t c =
+    let r = c .before .before in
+    r .read .kept .0
+
+walk-expr-returns-3 : (t : ℕ) → walk-expr-lts.Need-returns-3 (walk-expr-calls t) (walk-expr-at t) walk-expr.Post
+walk-expr-returns-3 t c =
+    let r = c .before .before in
+    let n = r .before in
+    let m = n .before .before .before in
+    let k = m .before in
+    let i = k .before .before .before .before in
+    let i₂ = i .before in
+    expr-var _ _ _ _ _ _ (i₂ .if1 .left) (i .if2 .left) _ _ (sym (k .kind .ensures) ∙ m .match .keys1) (n .number .ensures)
+    (r .read .ensures)
+
+walk-expr-same-length-2 : (t : ℕ) → walk-expr-lts.Need-same-length-2 (walk-expr-calls t) (walk-expr-at t) walk-expr.Post
+walk-expr-same-length-2 t c =
+    let w = c .before .before in
+    let w₂ = w .before .before .before .before in
+    w .walk-exprs .kept .1 .0 ∙ w₂ .walk-expr .kept .1 .0
+
+walk-expr-returns-4 : (t : ℕ) → walk-expr-lts.Need-returns-4 (walk-expr-calls t) (walk-expr-at t) walk-expr.Post
+walk-expr-returns-4 t c =
+    let w = c .before .before in
+    let w₂ = w .before .before .before .before in
+    let a₂ = w₂ .before .before in
+    let m = a₂ .before .before in
+    let k = m .before in
+    let a₃ = k .before .before in
+    let i = a₃ .before .before in
+    let i₂ = i .before in
+    expr-call _ _ _ _ _ _ (i₂ .if1 .left) (i .if2 .left) _ (a₃ .after-row .ensures .0) _ _ _ (sym (k .kind .ensures) ∙ m .match .keys2)
+    (a₂ .after-row2 .ensures .0) (w₂ .walk-expr .ensures) (w .walk-exprs .ensures)
+
+walk-expr-same-length-3 : (t : ℕ) → walk-expr-lts.Need-same-length-3 (walk-expr-calls t) (walk-expr-at t) walk-expr.Post
+walk-expr-same-length-3 t c =
+    let w = c .before .before in
+    let o = w .before .before .before .before in
+    w .walk-stmts .kept .1 .0 ∙ o .«open» .kept .1 .0
+
+walk-expr-returns-5 : (t : ℕ) → walk-expr-lts.Need-returns-5 (walk-expr-calls t) (walk-expr-at t) walk-expr.Post
+walk-expr-returns-5 t c =
+    let w = c .before .before in
+    let o = w .before .before .before .before in
+    let p = o .before .before in
+    let m = p .before in
+    let k = m .before in
+    let a₂ = k .before .before in
+    let i = a₂ .before .before in
+    let i₂ = i .before in
+    expr-lambda _ _ _ _ _ _ (i₂ .if1 .left) (i .if2 .left) _ (a₂ .after-row .ensures .0) _ _ _ (sym (k .kind .ensures) ∙ m .match .keys3)
+    (p .push-lambda .ensures) (o .«open» .ensures) (w .walk-stmts .ensures)
+
+walk-expr-same-length-4 : (t : ℕ) → walk-expr-lts.Need-same-length-4 (walk-expr-calls t) (walk-expr-at t) walk-expr.Post
+walk-expr-same-length-4 t c =
+    let w = c .before .before in
+    w .walk-exprs2 .kept .1 .0
+
+walk-expr-returns-6 : (t : ℕ) → walk-expr-lts.Need-returns-6 (walk-expr-calls t) (walk-expr-at t) walk-expr.Post
+walk-expr-returns-6 t c =
+    let w = c .before .before in
+    let m = w .before .before in
+    let k = m .before in
+    let a₂ = k .before .before in
+    let i = a₂ .before .before in
+    let i₂ = i .before in
+    expr-other _ _ _ _ _ _ (i₂ .if1 .left) (i .if2 .left) _ (a₂ .after-row .ensures .0) _
+    (λ e. m .match .rest .0 .0 .1 (k .kind .ensures ∙ e)) (λ e. m .match .rest .0 .1 (k .kind .ensures ∙ e))
+    (λ e. m .match .rest .1 (k .kind .ensures ∙ e)) (w .walk-exprs2 .ensures)
+
+abbrev walk-exprs-Inv-loop : walk-exprs-lts.InvT-loop
+walk-exprs-Inv-loop text work₀ left s first stop at₀ work at =
+    (length work ≡ length work₀)
+    × (walkExprs left text s at stop work ≡ walkExprs left text s first stop work₀)
+
+abbrev walk-exprs-μ-loop : walk-exprs-lts.MeasureT-loop
+walk-exprs-μ-loop text work₀ left s first stop at₀ work at = stop - at
+
+-- ---- walk_exprs
+abbrev walk-exprs-calls : ℕ → walk-exprs-lts.Claims
+walk-exprs-calls t = (after-row-reads.Asked, after-row-reads.Learnt, walk-expr-below t, walk-expr.Post)
+
+walk-exprs-loop-holds : (t : ℕ)
+    → walk-exprs-lts.Need-loop-holds (walk-exprs-calls t) (walk-exprs-at t) walk-exprs.Post walk-exprs-Inv-loop walk-exprs-μ-loop
+walk-exprs-loop-holds t c = (refl, refl)
+
+walk-exprs-after-row-requires : (t : ℕ)
+    → walk-exprs-lts.Need-after-row-requires (walk-exprs-calls t) (walk-exprs-at t) walk-exprs.Post walk-exprs-Inv-loop walk-exprs-μ-loop
+walk-exprs-after-row-requires t c κs = omega arith
+
+walk-exprs-walk-expr-requires : (t : ℕ)
+    → walk-exprs-lts.Need-walk-expr-requires (walk-exprs-calls t) (walk-exprs-at t) walk-exprs.Post walk-exprs-Inv-loop walk-exprs-μ-loop
+walk-exprs-walk-expr-requires t c κs = omega arith
+
+walk-exprs-loop-less : (t : ℕ)
+    → walk-exprs-lts.Need-loop-less (walk-exprs-calls t) (walk-exprs-at t) walk-exprs.Post walk-exprs-Inv-loop walk-exprs-μ-loop
+walk-exprs-loop-less t c = omega arith
+
+walk-exprs-loop-again : (t : ℕ)
+    → walk-exprs-lts.Need-loop-again (walk-exprs-calls t) (walk-exprs-at t) walk-exprs.Post walk-exprs-Inv-loop walk-exprs-μ-loop
+walk-exprs-loop-again t c =
+    let w = c .before .before in
+    let a₂ = w .before .before in
+    let l = a₂ .before .before in
+    let l₂ = l .before in
+    let a = l₂ .before .before .before .args in (
+      w .walk-expr .kept .1 .0 ∙ l₂ .loop .inv .0,
+      rows-turn afterRow (walkExpr (a .left) (a .text .now) false (a .s)) after-on (l₂ .loop .at) (a .stop) (a₂ .after-row .result)
+          (l₂ .loop .work) _ (l .loop-test .taken) (a₂ .after-row .ensures .0) (w .walk-expr .ensures)
+          ∙ l₂ .loop .inv .1,
+    )
+
+walk-exprs-same-length : (t : ℕ)
+    → walk-exprs-lts.Need-same-length (walk-exprs-calls t) (walk-exprs-at t) walk-exprs.Post walk-exprs-Inv-loop walk-exprs-μ-loop
+walk-exprs-same-length t c =
+    let l = c .before in
+    l .loop .inv .0
+
+walk-exprs-returns : (t : ℕ)
+    → walk-exprs-lts.Need-returns (walk-exprs-calls t) (walk-exprs-at t) walk-exprs.Post walk-exprs-Inv-loop walk-exprs-μ-loop
+walk-exprs-returns t c =
+    let l = c .before in
+    let a = l .before .before .before .args in
+    sym (rows-end afterRow (walkExpr (a .left) (a .text .now) false (a .s)) (l .loop .at) (a .stop) (l .loop .work) (c .loop-test .left)) ∙
+    l .loop .inv .1
+
+-- ---- walk_stmt
+abbrev walk-stmt-calls : ℕ → walk-stmt-lts.Claims
+walk-stmt-calls t = (
+  after-row-reads.Asked,
+  after-row-reads.Learnt,
+  kind-reads.Asked,
+  kind-reads.Learnt,
+  number-reads.Asked,
+  number-reads.Learnt,
+  define-reads.Asked,
+  define-reads.Learnt,
+  push-reads.Asked,
+  push-reads.Learnt,
+  walk-block-below t,
+  walk-block.Post,
+  pop-reads.Asked,
+  pop-reads.Learnt,
+  reopen-reads.Asked,
+  reopen-reads.Learnt,
+  walk-expr-below t,
+  walk-expr.Post,
+  walk-targets-below t,
+  walk-targets.Post,
+  walk-stmts-below t,
+  walk-stmts.Post,
+  judge-method-reads.Asked,
+  judge-method-reads.Learnt,
+)
+
+walk-stmt-returns : (t : ℕ) → walk-stmt-lts.Need-returns (walk-stmt-calls t) (walk-stmt-at t) walk-stmt.Post
+walk-stmt-returns t c = stmt-none _ _ _ _ _ (c .if1 .taken)
+
+walk-stmt-returns-2 : (t : ℕ) → walk-stmt-lts.Need-returns-2 (walk-stmt-calls t) (walk-stmt-at t) walk-stmt.Post
+walk-stmt-returns-2 t c =
+    let i = c .before in
+    stmt-far _ _ _ _ _ (i .if1 .left) (c .if2 .taken)
+
+walk-stmt-after-row-requires : (t : ℕ) → walk-stmt-lts.Need-after-row-requires (walk-stmt-calls t) (walk-stmt-at t) walk-stmt.Post
+walk-stmt-after-row-requires t c κs = omega arith
+
+walk-stmt-kind-requires : (t : ℕ) → walk-stmt-lts.Need-kind-requires (walk-stmt-calls t) (walk-stmt-at t) walk-stmt.Post
+walk-stmt-kind-requires t c κs = tt
+
+walk-stmt-number-requires : (t : ℕ) → walk-stmt-lts.Need-number-requires (walk-stmt-calls t) (walk-stmt-at t) walk-stmt.Post
+walk-stmt-number-requires t c κs = omega arith
+
+walk-stmt-define-requires : (t : ℕ) → walk-stmt-lts.Need-define-requires (walk-stmt-calls t) (walk-stmt-at t) walk-stmt.Post
+walk-stmt-define-requires t c κs = tt
+
+walk-stmt-push-requires : (t : ℕ) → walk-stmt-lts.Need-push-requires (walk-stmt-calls t) (walk-stmt-at t) walk-stmt.Post
+walk-stmt-push-requires t c κs = tt
+
+walk-stmt-sub-walk-block : (t : ℕ) → walk-stmt-lts.Need-sub-walk-block (walk-stmt-calls t) (walk-stmt-at t) walk-stmt.Post
+walk-stmt-sub-walk-block t c = omega arith
+
+walk-stmt-walk-block-requires : (t : ℕ) → walk-stmt-lts.Need-walk-block-requires (walk-stmt-calls t) (walk-stmt-at t) walk-stmt.Post
+walk-stmt-walk-block-requires t c κs =
+    let p = c .before in
+    let a₂ = p .before .before .before .before .before .before .before .before .before .before in
+    let i = a₂ .before .before in
+    let i₂ = i .before in
+    let o = i₂ .before .before .before in
+    omega (arith, o .pre .0, i₂ .if1 .left, i .if2 .left, a₂ .after-row .ensures .1, scoped (p .push .ensures))
+
+walk-stmt-pop-requires : (t : ℕ) → walk-stmt-lts.Need-pop-requires (walk-stmt-calls t) (walk-stmt-at t) walk-stmt.Post
+walk-stmt-pop-requires t c κs = tt
+
+walk-stmt-reopen-requires : (t : ℕ) → walk-stmt-lts.Need-reopen-requires (walk-stmt-calls t) (walk-stmt-at t) walk-stmt.Post
+walk-stmt-reopen-requires t c κs =
+    let o = c .before .before .before .before .before .before .before .before .before .before .before .before .before .before .before .before .before .before .before .before .before .before in
+    omega (arith, o .pre .1, scoped (c .pop .ensures))
+
+walk-stmt-add-after-row : (t : ℕ) → walk-stmt-lts.Need-add-after-row (walk-stmt-calls t) (walk-stmt-at t) walk-stmt.Post
+walk-stmt-add-after-row t c = omega arith
+
+walk-stmt-after-row-requires-2 : (t : ℕ) → walk-stmt-lts.Need-after-row-requires-2 (walk-stmt-calls t) (walk-stmt-at t) walk-stmt.Post
+walk-stmt-after-row-requires-2 t c κs = omega arith
+
+walk-stmt-sub-walk-expr : (t : ℕ) → walk-stmt-lts.Need-sub-walk-expr (walk-stmt-calls t) (walk-stmt-at t) walk-stmt.Post
+walk-stmt-sub-walk-expr t c = omega arith
+
+walk-stmt-add-walk-expr : (t : ℕ) → walk-stmt-lts.Need-add-walk-expr (walk-stmt-calls t) (walk-stmt-at t) walk-stmt.Post
+walk-stmt-add-walk-expr t c = omega arith
+
+walk-stmt-walk-expr-requires : (t : ℕ) → walk-stmt-lts.Need-walk-expr-requires (walk-stmt-calls t) (walk-stmt-at t) walk-stmt.Post
+walk-stmt-walk-expr-requires t c κs = omega arith
+
+walk-stmt-sub-walk-targets : (t : ℕ) → walk-stmt-lts.Need-sub-walk-targets (walk-stmt-calls t) (walk-stmt-at t) walk-stmt.Post
+walk-stmt-sub-walk-targets t c = omega arith
+
+walk-stmt-walk-targets-requires : (t : ℕ) → walk-stmt-lts.Need-walk-targets-requires (walk-stmt-calls t) (walk-stmt-at t) walk-stmt.Post
+walk-stmt-walk-targets-requires t c κs = omega arith
+
+walk-stmt-number-requires-2 : (t : ℕ) → walk-stmt-lts.Need-number-requires-2 (walk-stmt-calls t) (walk-stmt-at t) walk-stmt.Post
+walk-stmt-number-requires-2 t c κs = omega arith
+
+walk-stmt-add-after-row-2 : (t : ℕ) → walk-stmt-lts.Need-add-after-row-2 (walk-stmt-calls t) (walk-stmt-at t) walk-stmt.Post
+walk-stmt-add-after-row-2 t c = omega arith
+
+walk-stmt-after-row-requires-3 : (t : ℕ) → walk-stmt-lts.Need-after-row-requires-3 (walk-stmt-calls t) (walk-stmt-at t) walk-stmt.Post
+walk-stmt-after-row-requires-3 t c κs = omega arith
+
+walk-stmt-sub-walk-expr-2 : (t : ℕ) → walk-stmt-lts.Need-sub-walk-expr-2 (walk-stmt-calls t) (walk-stmt-at t) walk-stmt.Post
+walk-stmt-sub-walk-expr-2 t c = omega arith
+
+walk-stmt-add-walk-expr-2 : (t : ℕ) → walk-stmt-lts.Need-add-walk-expr-2 (walk-stmt-calls t) (walk-stmt-at t) walk-stmt.Post
+walk-stmt-add-walk-expr-2 t c = omega arith
+
+walk-stmt-walk-expr-requires-2 : (t : ℕ) → walk-stmt-lts.Need-walk-expr-requires-2 (walk-stmt-calls t) (walk-stmt-at t) walk-stmt.Post
+walk-stmt-walk-expr-requires-2 t c κs = omega arith
+
+walk-stmt-define-requires-2 : (t : ℕ) → walk-stmt-lts.Need-define-requires-2 (walk-stmt-calls t) (walk-stmt-at t) walk-stmt.Post
+walk-stmt-define-requires-2 t c κs = tt
+
+walk-stmt-sub-walk-stmts : (t : ℕ) → walk-stmt-lts.Need-sub-walk-stmts (walk-stmt-calls t) (walk-stmt-at t) walk-stmt.Post
+walk-stmt-sub-walk-stmts t c = omega arith
+
+walk-stmt-walk-stmts-requires : (t : ℕ) → walk-stmt-lts.Need-walk-stmts-requires (walk-stmt-calls t) (walk-stmt-at t) walk-stmt.Post
+walk-stmt-walk-stmts-requires t c κs = omega arith
+
+walk-stmt-number-requires-3 : (t : ℕ) → walk-stmt-lts.Need-number-requires-3 (walk-stmt-calls t) (walk-stmt-at t) walk-stmt.Post
+walk-stmt-number-requires-3 t c κs = omega arith
+
+walk-stmt-define-requires-3 : (t : ℕ) → walk-stmt-lts.Need-define-requires-3 (walk-stmt-calls t) (walk-stmt-at t) walk-stmt.Post
+walk-stmt-define-requires-3 t c κs = tt
+
+walk-stmt-sub-walk-stmts-2 : (t : ℕ) → walk-stmt-lts.Need-sub-walk-stmts-2 (walk-stmt-calls t) (walk-stmt-at t) walk-stmt.Post
+walk-stmt-sub-walk-stmts-2 t c = omega arith
+
+walk-stmt-add-walk-stmts : (t : ℕ) → walk-stmt-lts.Need-add-walk-stmts (walk-stmt-calls t) (walk-stmt-at t) walk-stmt.Post
+walk-stmt-add-walk-stmts t c = omega arith
+
+walk-stmt-walk-stmts-requires-2 : (t : ℕ) → walk-stmt-lts.Need-walk-stmts-requires-2 (walk-stmt-calls t) (walk-stmt-at t) walk-stmt.Post
+walk-stmt-walk-stmts-requires-2 t c κs = omega arith
+
+walk-stmt-judge-method-requires : (t : ℕ) → walk-stmt-lts.Need-judge-method-requires (walk-stmt-calls t) (walk-stmt-at t) walk-stmt.Post
+walk-stmt-judge-method-requires t c κs = omega arith
+
+walk-stmt-sub-walk-block-2 : (t : ℕ) → walk-stmt-lts.Need-sub-walk-block-2 (walk-stmt-calls t) (walk-stmt-at t) walk-stmt.Post
+walk-stmt-sub-walk-block-2 t c = omega arith
+
+walk-stmt-push-requires-2 : (t : ℕ) → walk-stmt-lts.Need-push-requires-2 (walk-stmt-calls t) (walk-stmt-at t) walk-stmt.Post
+walk-stmt-push-requires-2 t c κs = tt
+
+walk-stmt-walk-block-requires-2 : (t : ℕ) → walk-stmt-lts.Need-walk-block-requires-2 (walk-stmt-calls t) (walk-stmt-at t) walk-stmt.Post
+walk-stmt-walk-block-requires-2 t c κs = omega (arith, scoped (c .push2 .ensures))
+
+walk-stmt-sub-walk-stmts-3 : (t : ℕ) → walk-stmt-lts.Need-sub-walk-stmts-3 (walk-stmt-calls t) (walk-stmt-at t) walk-stmt.Post
+walk-stmt-sub-walk-stmts-3 t c = omega arith
+
+walk-stmt-add-walk-stmts-2 : (t : ℕ) → walk-stmt-lts.Need-add-walk-stmts-2 (walk-stmt-calls t) (walk-stmt-at t) walk-stmt.Post
+walk-stmt-add-walk-stmts-2 t c = omega arith
+
+walk-stmt-walk-stmts-requires-3 : (t : ℕ) → walk-stmt-lts.Need-walk-stmts-requires-3 (walk-stmt-calls t) (walk-stmt-at t) walk-stmt.Post
+walk-stmt-walk-stmts-requires-3 t c κs = omega arith
+
+walk-stmt-same-length : (t : ℕ) → walk-stmt-lts.Need-same-length (walk-stmt-calls t) (walk-stmt-at t) walk-stmt.Post
+walk-stmt-same-length t c =
+    let r = c .before .before in
+    let w = r .before .before .before .before .before in
+    let d = w .before .before .before .before .before in
+    r .reopen .kept .1 .0 ∙ (w .walk-block .kept .1 .0 ∙ d .define .kept .1 .0)
+
+walk-stmt-returns-3 : (t : ℕ) → walk-stmt-lts.Need-returns-3 (walk-stmt-calls t) (walk-stmt-at t) walk-stmt.Post
+walk-stmt-returns-3 t c =
+    let r = c .before .before in
+    let p = r .before in
+    let w = p .before .before .before .before in
+    let p₂ = w .before .before in
+    let d = p₂ .before .before .before in
+    let n = d .before in
+    let m = n .before .before .before in
+    let k = m .before in
+    let a₂ = k .before .before in
+    let i = a₂ .before .before in
+    let i₂ = i .before in
+    stmt-def _ _ _ _ _ (i₂ .if1 .left) (i .if2 .left) _ (a₂ .after-row .ensures .0) _ _ _ _ _ _ (sym (k .kind .ensures) ∙ m .match .keys1)
+    (n .number .ensures) (d .define .ensures) (p₂ .push .ensures) (w .walk-block .ensures) (p .pop .ensures) (r .reopen .ensures)
+
+walk-stmt-same-length-2 : (t : ℕ) → walk-stmt-lts.Need-same-length-2 (walk-stmt-calls t) (walk-stmt-at t) walk-stmt.Post
+walk-stmt-same-length-2 t c =
+    let w = c .before .before in
+    let w₂ = w .before .before .before .before in
+    w .walk-targets .kept .1 .0 ∙ w₂ .walk-expr .kept .1 .0
+
+walk-stmt-returns-4 : (t : ℕ) → walk-stmt-lts.Need-returns-4 (walk-stmt-calls t) (walk-stmt-at t) walk-stmt.Post
+walk-stmt-returns-4 t c =
+    let w = c .before .before in
+    let w₂ = w .before .before .before .before in
+    let a₂ = w₂ .before .before in
+    let m = a₂ .before .before in
+    let k = m .before in
+    let a₃ = k .before .before in
+    let i = a₃ .before .before in
+    let i₂ = i .before in
+    stmt-assign _ _ _ _ _ (i₂ .if1 .left) (i .if2 .left) _ (a₃ .after-row .ensures .0) _ _ (a₂ .after-row2 .ensures .0)
+    (w₂ .walk-expr .ensures) _ (sym (k .kind .ensures) ∙ m .match .keys2) (w .walk-targets .ensures)
+
+walk-stmt-same-length-3 : (t : ℕ) → walk-stmt-lts.Need-same-length-3 (walk-stmt-calls t) (walk-stmt-at t) walk-stmt.Post
+walk-stmt-same-length-3 t c =
+    let w = c .before .before in
+    let d = w .before .before .before .before in
+    let w₂ = d .before .before .before .before in
+    w .walk-stmts .kept .1 .0 ∙ (d .define2 .kept .1 .0 ∙ w₂ .walk-expr2 .kept .1 .0)
+
+walk-stmt-returns-5 : (t : ℕ) → walk-stmt-lts.Need-returns-5 (walk-stmt-calls t) (walk-stmt-at t) walk-stmt.Post
+walk-stmt-returns-5 t c =
+    let w = c .before .before in
+    let d = w .before .before .before .before in
+    let w₂ = d .before .before .before .before in
+    let a₂ = w₂ .before .before in
+    let n = a₂ .before .before in
+    let m = n .before .before in
+    let k = m .before in
+    let a₃ = k .before .before in
+    let i = a₃ .before .before in
+    let i₂ = i .before in
+    stmt-for _ _ _ _ _ (i₂ .if1 .left) (i .if2 .left) _ (a₃ .after-row .ensures .0) _ _ (a₂ .after-row3 .ensures .0)
+    (w₂ .walk-expr2 .ensures) _ _ _ (sym (k .kind .ensures) ∙ m .match .keys3) (n .number2 .ensures) (d .define2 .ensures)
+    (w .walk-stmts .ensures)
+
+walk-stmt-same-length-4 : (t : ℕ) → walk-stmt-lts.Need-same-length-4 (walk-stmt-calls t) (walk-stmt-at t) walk-stmt.Post
+walk-stmt-same-length-4 t c =
+    let w = c .before .before in
+    let d = w .before .before .before .before .before .before in
+    w .walk-stmts2 .kept .1 .0 ∙ d .define3 .kept .1 .0
+
+walk-stmt-returns-6 : (t : ℕ) → walk-stmt-lts.Need-returns-6 (walk-stmt-calls t) (walk-stmt-at t) walk-stmt.Post
+walk-stmt-returns-6 t c =
+    let w = c .before .before in
+    let i = w .before .before in
+    let d = i .before .before .before .before in
+    let n = d .before in
+    let m = n .before .before .before in
+    let k = m .before in
+    let a₂ = k .before .before in
+    let i₂ = a₂ .before .before in
+    let i₃ = i₂ .before in
+    stmt-class _ _ _ _ _ (i₃ .if1 .left) (i₂ .if2 .left) _ _ (sym (k .kind .ensures) ∙ m .match .keys4) (n .number3 .ensures)
+    (d .define3 .ensures) (i .if3 .taken) _ _ (a₂ .after-row .ensures .0) (w .walk-stmts2 .ensures)
+
+walk-stmt-same-length-5 : (t : ℕ) → walk-stmt-lts.Need-same-length-5 (walk-stmt-calls t) (walk-stmt-at t) walk-stmt.Post
+walk-stmt-same-length-5 t c =
+    let d = c .before .before .before .before in
+    d .define3 .kept .1 .0
+
+walk-stmt-returns-7 : (t : ℕ) → walk-stmt-lts.Need-returns-7 (walk-stmt-calls t) (walk-stmt-at t) walk-stmt.Post
+walk-stmt-returns-7 t c =
+    let d = c .before .before .before .before in
+    let n = d .before in
+    let m = n .before .before .before in
+    let k = m .before in
+    let i = k .before .before .before .before in
+    let i₂ = i .before in
+    stmt-inner-class _ _ _ _ _ (i₂ .if1 .left) (i .if2 .left) _ _ (sym (k .kind .ensures) ∙ m .match .keys4) (n .number3 .ensures)
+    (d .define3 .ensures) (c .if3 .left)
+
+walk-stmt-same-length-6 : (t : ℕ) → walk-stmt-lts.Need-same-length-6 (walk-stmt-calls t) (walk-stmt-at t) walk-stmt.Post
+walk-stmt-same-length-6 t c =
+    let w = c .before .before in
+    let j = w .before .before .before .before .before in
+    w .walk-block2 .kept .1 .0 ∙ j .judge-method .kept .1 .0
+
+walk-stmt-returns-8 : (t : ℕ) → walk-stmt-lts.Need-returns-8 (walk-stmt-calls t) (walk-stmt-at t) walk-stmt.Post
+walk-stmt-returns-8 t c =
+    let w = c .before .before in
+    let p = w .before in
+    let j = p .before .before .before .before in
+    let m = j .before .before in
+    let k = m .before in
+    let a₂ = k .before .before in
+    let i = a₂ .before .before in
+    let i₂ = i .before in
+    stmt-method _ _ _ _ _ (i₂ .if1 .left) (i .if2 .left) _ (a₂ .after-row .ensures .0) _ _ _ (sym (k .kind .ensures) ∙ m .match .keys5)
+    (j .judge-method .ensures) (p .push2 .ensures) (w .walk-block2 .ensures)
+
+walk-stmt-same-length-7 : (t : ℕ) → walk-stmt-lts.Need-same-length-7 (walk-stmt-calls t) (walk-stmt-at t) walk-stmt.Post
+walk-stmt-same-length-7 t c = refl
+
+walk-stmt-returns-9 : (t : ℕ) → walk-stmt-lts.Need-returns-9 (walk-stmt-calls t) (walk-stmt-at t) walk-stmt.Post
+walk-stmt-returns-9 t c =
+    let k = c .before in
+    let i = k .before .before .before .before in
+    let i₂ = i .before in
+    stmt-attr _ _ _ _ _ (i₂ .if1 .left) (i .if2 .left) (sym (k .kind .ensures) ∙ c .match .keys6)
+
+walk-stmt-same-length-8 : (t : ℕ) → walk-stmt-lts.Need-same-length-8 (walk-stmt-calls t) (walk-stmt-at t) walk-stmt.Post
+walk-stmt-same-length-8 t c =
+    let w = c .before .before in
+    w .walk-stmts3 .kept .1 .0
+
+walk-stmt-returns-10 : (t : ℕ) → walk-stmt-lts.Need-returns-10 (walk-stmt-calls t) (walk-stmt-at t) walk-stmt.Post
+walk-stmt-returns-10 t c =
+    let w = c .before .before in
+    let m = w .before .before in
+    let k = m .before in
+    let a₂ = k .before .before in
+    let i = a₂ .before .before in
+    let i₂ = i .before in
+    stmt-other _ _ _ _ _ (i₂ .if1 .left) (i .if2 .left) _ (a₂ .after-row .ensures .0) _
+    (λ e. m .match .rest .0 .0 .0 .0 .0 .1 (k .kind .ensures ∙ e)) (λ e. m .match .rest .0 .0 .0 .0 .1 (k .kind .ensures ∙ e))
+    (λ e. m .match .rest .0 .0 .0 .1 (k .kind .ensures ∙ e)) (λ e. m .match .rest .0 .0 .1 (k .kind .ensures ∙ e))
+    (λ e. m .match .rest .0 .1 (k .kind .ensures ∙ e)) (λ e. m .match .rest .1 (k .kind .ensures ∙ e)) (w .walk-stmts3 .ensures)
+
+abbrev walk-stmts-Inv-loop : walk-stmts-lts.InvT-loop
+walk-stmts-Inv-loop text work₀ left s first stop at₀ work at =
+    (length work ≡ length work₀)
+    × (walkStmts left text s at stop work ≡ walkStmts left text s first stop work₀)
+
+abbrev walk-stmts-μ-loop : walk-stmts-lts.MeasureT-loop
+walk-stmts-μ-loop text work₀ left s first stop at₀ work at = stop - at
+
+-- ---- walk_stmts
+abbrev walk-stmts-calls : ℕ → walk-stmts-lts.Claims
+walk-stmts-calls t = (
+  after-row-reads.Asked,
+  after-row-reads.Learnt,
+  kind-reads.Asked,
+  kind-reads.Learnt,
+  walk-stmt-below t,
+  walk-stmt.Post,
+  walk-expr-below t,
+  walk-expr.Post,
+)
+
+walk-stmts-loop-holds : (t : ℕ)
+    → walk-stmts-lts.Need-loop-holds (walk-stmts-calls t) (walk-stmts-at t) walk-stmts.Post walk-stmts-Inv-loop walk-stmts-μ-loop
+walk-stmts-loop-holds t c = (refl, refl)
+
+walk-stmts-after-row-requires : (t : ℕ)
+    → walk-stmts-lts.Need-after-row-requires (walk-stmts-calls t) (walk-stmts-at t) walk-stmts.Post walk-stmts-Inv-loop walk-stmts-μ-loop
+walk-stmts-after-row-requires t c κs = omega arith
+
+walk-stmts-kind-requires : (t : ℕ)
+    → walk-stmts-lts.Need-kind-requires (walk-stmts-calls t) (walk-stmts-at t) walk-stmts.Post walk-stmts-Inv-loop walk-stmts-μ-loop
+walk-stmts-kind-requires t c κs = tt
+
+walk-stmts-walk-stmt-requires : (t : ℕ)
+    → walk-stmts-lts.Need-walk-stmt-requires (walk-stmts-calls t) (walk-stmts-at t) walk-stmts.Post walk-stmts-Inv-loop walk-stmts-μ-loop
+walk-stmts-walk-stmt-requires t c κs = omega arith
+
+walk-stmts-walk-expr-requires : (t : ℕ)
+    → walk-stmts-lts.Need-walk-expr-requires (walk-stmts-calls t) (walk-stmts-at t) walk-stmts.Post walk-stmts-Inv-loop walk-stmts-μ-loop
+walk-stmts-walk-expr-requires t c κs = omega arith
+
+walk-stmts-loop-less : (t : ℕ)
+    → walk-stmts-lts.Need-loop-less (walk-stmts-calls t) (walk-stmts-at t) walk-stmts.Post walk-stmts-Inv-loop walk-stmts-μ-loop
+walk-stmts-loop-less t c = omega arith
+
+walk-stmts-loop-again : (t : ℕ)
+    → walk-stmts-lts.Need-loop-again (walk-stmts-calls t) (walk-stmts-at t) walk-stmts.Post walk-stmts-Inv-loop walk-stmts-μ-loop
+walk-stmts-loop-again t c =
+    let w = c .before .before in
+    let a₂ = w .before .before .before .before .before in
+    let l = a₂ .before .before in
+    let l₂ = l .before in
+    let a = l₂ .before .before .before .args in (
+      w .walk-stmt .kept .1 .0 ∙ l₂ .loop .inv .0,
+      rows-turn afterRow (walkLine (a .left) (a .text .now) (a .s)) after-on (l₂ .loop .at) (a .stop) (a₂ .after-row .result)
+          (l₂ .loop .work) _ (l .loop-test .taken) (a₂ .after-row .ensures .0)
+          (line-stmt (a .left) (a .text .now) (a .s) (l₂ .loop .at) (l₂ .loop .work) _ (omega arith) (w .walk-stmt .ensures))
+          ∙ l₂ .loop .inv .1,
+    )
+
+walk-stmts-loop-less-2 : (t : ℕ)
+    → walk-stmts-lts.Need-loop-less-2 (walk-stmts-calls t) (walk-stmts-at t) walk-stmts.Post walk-stmts-Inv-loop walk-stmts-μ-loop
+walk-stmts-loop-less-2 t c = omega arith
+
+walk-stmts-loop-again-2 : (t : ℕ)
+    → walk-stmts-lts.Need-loop-again-2 (walk-stmts-calls t) (walk-stmts-at t) walk-stmts.Post walk-stmts-Inv-loop walk-stmts-μ-loop
+walk-stmts-loop-again-2 t c =
+    let w = c .before .before in
+    let a₂ = w .before .before .before .before .before in
+    let l = a₂ .before .before in
+    let l₂ = l .before in
+    let a = l₂ .before .before .before .args in (
+      w .walk-expr .kept .1 .0 ∙ l₂ .loop .inv .0,
+      rows-turn afterRow (walkLine (a .left) (a .text .now) (a .s)) after-on (l₂ .loop .at) (a .stop) (a₂ .after-row .result)
+          (l₂ .loop .work) _ (l .loop-test .taken) (a₂ .after-row .ensures .0)
+          (line-expr (a .left) (a .text .now) (a .s) (l₂ .loop .at) (l₂ .loop .work) _ (omega arith) (w .walk-expr .ensures))
+          ∙ l₂ .loop .inv .1,
+    )
+
+walk-stmts-same-length : (t : ℕ)
+    → walk-stmts-lts.Need-same-length (walk-stmts-calls t) (walk-stmts-at t) walk-stmts.Post walk-stmts-Inv-loop walk-stmts-μ-loop
+walk-stmts-same-length t c =
+    let l = c .before in
+    l .loop .inv .0
+
+walk-stmts-returns : (t : ℕ)
+    → walk-stmts-lts.Need-returns (walk-stmts-calls t) (walk-stmts-at t) walk-stmts.Post walk-stmts-Inv-loop walk-stmts-μ-loop
+walk-stmts-returns t c =
+    let l = c .before in
+    let a = l .before .before .before .args in
+    sym (rows-end afterRow (walkLine (a .left) (a .text .now) (a .s)) (l .loop .at) (a .stop) (l .loop .work) (c .loop-test .left)) ∙ l
+    .loop .inv .1
+
+-- ---- walk_target
+abbrev walk-target-calls : ℕ → walk-target-lts.Claims
+walk-target-calls t = (
+  kind-reads.Asked,
+  kind-reads.Learnt,
+  number-reads.Asked,
+  number-reads.Learnt,
+  define-reads.Asked,
+  define-reads.Learnt,
+  after-row-reads.Asked,
+  after-row-reads.Learnt,
+  walk-exprs-below t,
+  walk-exprs.Post,
+  put-slot-reads.Asked,
+  put-slot-reads.Learnt,
+)
+
+walk-target-kind-requires : (t : ℕ) → walk-target-lts.Need-kind-requires (walk-target-calls t) (walk-target-at t) walk-target.Post
+walk-target-kind-requires t c κs = tt
+
+walk-target-number-requires : (t : ℕ) → walk-target-lts.Need-number-requires (walk-target-calls t) (walk-target-at t) walk-target.Post
+walk-target-number-requires t c κs = omega arith
+
+walk-target-define-requires : (t : ℕ) → walk-target-lts.Need-define-requires (walk-target-calls t) (walk-target-at t) walk-target.Post
+walk-target-define-requires t c κs = tt
+
+walk-target-add-walk-exprs : (t : ℕ) → walk-target-lts.Need-add-walk-exprs (walk-target-calls t) (walk-target-at t) walk-target.Post
+walk-target-add-walk-exprs t c = omega arith
+
+walk-target-after-row-requires : (t : ℕ) → walk-target-lts.Need-after-row-requires (walk-target-calls t) (walk-target-at t) walk-target.Post
+walk-target-after-row-requires t c κs = omega arith
+
+walk-target-walk-exprs-requires : (t : ℕ) → walk-target-lts.Need-walk-exprs-requires (walk-target-calls t) (walk-target-at t) walk-target.Post
+walk-target-walk-exprs-requires t c κs = omega arith
+
+walk-target-add-walk-exprs-2 : (t : ℕ) → walk-target-lts.Need-add-walk-exprs-2 (walk-target-calls t) (walk-target-at t) walk-target.Post
+walk-target-add-walk-exprs-2 t c = omega arith
+
+walk-target-after-row-requires-2 : (t : ℕ) → walk-target-lts.Need-after-row-requires-2 (walk-target-calls t) (walk-target-at t) walk-target.Post
+walk-target-after-row-requires-2 t c κs = omega arith
+
+walk-target-walk-exprs-requires-2 : (t : ℕ) → walk-target-lts.Need-walk-exprs-requires-2 (walk-target-calls t) (walk-target-at t) walk-target.Post
+walk-target-walk-exprs-requires-2 t c κs = omega arith
+
+walk-target-put-slot-requires : (t : ℕ) → walk-target-lts.Need-put-slot-requires (walk-target-calls t) (walk-target-at t) walk-target.Post
+walk-target-put-slot-requires t c κs = omega arith
+
+walk-target-same-length : (t : ℕ) → walk-target-lts.Need-same-length (walk-target-calls t) (walk-target-at t) walk-target.Post
+walk-target-same-length t c =
+    let d = c .before .before in
+    d .define .kept .1 .0
+
+walk-target-returns : (t : ℕ) → walk-target-lts.Need-returns (walk-target-calls t) (walk-target-at t) walk-target.Post
+walk-target-returns t c =
+    let d = c .before .before in
+    let n = d .before in
+    let m = n .before .before .before in
+    let k = m .before in
+    target-var _ _ _ _ _ _ (sym (k .kind .ensures) ∙ m .match .keys1) (n .number .ensures) (d .define .ensures)
+
+walk-target-same-length-2 : (t : ℕ) → walk-target-lts.Need-same-length-2 (walk-target-calls t) (walk-target-at t) walk-target.Post
+walk-target-same-length-2 t c = refl
+
+walk-target-returns-2 : (t : ℕ) → walk-target-lts.Need-returns-2 (walk-target-calls t) (walk-target-at t) walk-target.Post
+walk-target-returns-2 t c =
+    let k = c .before in
+    target-tuple _ _ _ _ (sym (k .kind .ensures) ∙ c .match .keys2)
+
+walk-target-same-length-3 : (t : ℕ) → walk-target-lts.Need-same-length-3 (walk-target-calls t) (walk-target-at t) walk-target.Post
+walk-target-same-length-3 t c =
+    let w = c .before .before in
+    w .walk-exprs .kept .1 .0
+
+walk-target-returns-3 : (t : ℕ) → walk-target-lts.Need-returns-3 (walk-target-calls t) (walk-target-at t) walk-target.Post
+walk-target-returns-3 t c =
+    let w = c .before .before in
+    let a₂ = w .before in
+    let m = a₂ .before .before .before in
+    let k = m .before in
+    target-index _ _ _ _ _ _ (a₂ .after-row .ensures .0) (w .walk-exprs .ensures) (sym (k .kind .ensures) ∙ m .match .keys3)
+
+walk-target-same-length-4 : (t : ℕ) → walk-target-lts.Need-same-length-4 (walk-target-calls t) (walk-target-at t) walk-target.Post
+walk-target-same-length-4 t c =
+    let w = c .before .before in
+    w .walk-exprs2 .kept .1 .0
+
+walk-target-returns-4 : (t : ℕ) → walk-target-lts.Need-returns-4 (walk-target-calls t) (walk-target-at t) walk-target.Post
+walk-target-returns-4 t c =
+    let w = c .before .before in
+    let a₂ = w .before in
+    let m = a₂ .before .before .before in
+    let k = m .before in
+    target-get _ _ _ _ _ _ (a₂ .after-row2 .ensures .0) (w .walk-exprs2 .ensures) (sym (k .kind .ensures) ∙ m .match .keys4)
+
+walk-target-same-length-5 : (t : ℕ) → walk-target-lts.Need-same-length-5 (walk-target-calls t) (walk-target-at t) walk-target.Post
+walk-target-same-length-5 t c =
+    let p = c .before .before in
+    p .put-slot .kept .0
+
+walk-target-returns-5 : (t : ℕ) → walk-target-lts.Need-returns-5 (walk-target-calls t) (walk-target-at t) walk-target.Post
+walk-target-returns-5 t c =
+    let p = c .before .before in
+    let m = p .before .before in
+    let k = m .before in
+    target-none _ _ _ _ _ (λ e. m .match .rest .0 .0 .0 .1 (k .kind .ensures ∙ e)) (λ e. m .match .rest .0 .0 .1 (k .kind .ensures ∙ e))
+    (λ e. m .match .rest .0 .1 (k .kind .ensures ∙ e)) (λ e. m .match .rest .1 (k .kind .ensures ∙ e)) (p .put-slot .ensures)
+
+abbrev walk-targets-Inv-loop : walk-targets-lts.InvT-loop
+walk-targets-Inv-loop text work₀ left s first stop at₀ work at =
+    (length work ≡ length work₀)
+    × (rowsTo nextTarget (targetAt (walkExpr left text false s) s) at stop work ≡ rowsTo nextTarget (targetAt (walkExpr left text false s) s) first stop work₀)
+
+abbrev walk-targets-μ-loop : walk-targets-lts.MeasureT-loop
+walk-targets-μ-loop text work₀ left s first stop at₀ work at = stop - at
+
+-- ---- walk_targets
+abbrev walk-targets-calls : ℕ → walk-targets-lts.Claims
+walk-targets-calls t = (next-target-reads.Asked, next-target-reads.Learnt, walk-target-below t, walk-target.Post)
+
+walk-targets-loop-holds : (t : ℕ)
+    → walk-targets-lts.Need-loop-holds (walk-targets-calls t) (walk-targets-at t) walk-targets.Post walk-targets-Inv-loop walk-targets-μ-loop
+walk-targets-loop-holds t c = (refl, refl)
+
+walk-targets-next-target-requires : (t : ℕ)
+    → walk-targets-lts.Need-next-target-requires (walk-targets-calls t) (walk-targets-at t) walk-targets.Post walk-targets-Inv-loop walk-targets-μ-loop
+walk-targets-next-target-requires t c κs = omega arith
+
+walk-targets-walk-target-requires : (t : ℕ)
+    → walk-targets-lts.Need-walk-target-requires (walk-targets-calls t) (walk-targets-at t) walk-targets.Post walk-targets-Inv-loop walk-targets-μ-loop
+walk-targets-walk-target-requires t c κs = omega arith
+
+walk-targets-loop-less : (t : ℕ)
+    → walk-targets-lts.Need-loop-less (walk-targets-calls t) (walk-targets-at t) walk-targets.Post walk-targets-Inv-loop walk-targets-μ-loop
+walk-targets-loop-less t c = omega arith
+
+walk-targets-loop-again : (t : ℕ)
+    → walk-targets-lts.Need-loop-again (walk-targets-calls t) (walk-targets-at t) walk-targets.Post walk-targets-Inv-loop walk-targets-μ-loop
+walk-targets-loop-again t c =
+    let w = c .before .before in
+    let n = w .before .before in
+    let l = n .before .before in
+    let l₂ = l .before in
+    let a = l₂ .before .before .before .args in (
+      w .walk-target .kept .1 .0 ∙ l₂ .loop .inv .0,
+      rows-turn nextTarget (targetAt (walkExpr (a .left) (a .text .now) false (a .s)) (a .s)) target-on (l₂ .loop .at) (a .stop)
+          (n .next-target .result) (l₂ .loop .work) _ (l .loop-test .taken) (n .next-target .ensures .0) (w .walk-target .ensures)
+          ∙ l₂ .loop .inv .1,
+    )
+
+walk-targets-same-length : (t : ℕ)
+    → walk-targets-lts.Need-same-length (walk-targets-calls t) (walk-targets-at t) walk-targets.Post walk-targets-Inv-loop walk-targets-μ-loop
+walk-targets-same-length t c =
+    let l = c .before in
+    l .loop .inv .0
+
+walk-targets-returns : (t : ℕ)
+    → walk-targets-lts.Need-returns (walk-targets-calls t) (walk-targets-at t) walk-targets.Post walk-targets-Inv-loop walk-targets-μ-loop
+walk-targets-returns t c =
+    let l = c .before in
+    let a = l .before .before .before .args in
+    sym
+    (rows-end nextTarget (targetAt (walkExpr (a .left) (a .text .now) false (a .s)) (a .s)) (l .loop .at) (a .stop) (l .loop .work) (c .loop-test .left))
+    ∙ l .loop .inv .1
+
+pub +walk-block+walk-expr+walk-exprs+walk-stmt+walk-stmts+walk-target+walk-targets-spec :
+    {M : Type 1} → statement M
++walk-block+walk-expr+walk-exprs+walk-stmt+walk-stmts+walk-target+walk-targets-spec =
+    close
+    μ-walk-block
+    μ-walk-expr
+    μ-walk-exprs
+    μ-walk-stmt
+    μ-walk-stmts
+    μ-walk-target
+    μ-walk-targets
+    (λ t. walk-block-lts.spec (walk-block-calls t)
+    (walk-block-at t)
+    walk-block.Post
+    (walk-block-open-requires t)
+    (walk-block-add-walk-stmts t)
+    (walk-block-walk-stmts-requires t)
+    (walk-block-same-length t)
+    (walk-block-returns t))
+    (λ t. walk-expr-lts.spec (walk-expr-calls t)
+    (walk-expr-at t)
+    walk-expr.Post
+    (walk-expr-returns t)
+    (walk-expr-returns-2 t)
+    (walk-expr-after-row-requires t)
+    (walk-expr-kind-requires t)
+    (walk-expr-number-requires t)
+    (walk-expr-read-requires t)
+    (walk-expr-add-after-row t)
+    (walk-expr-after-row-requires-2 t)
+    (walk-expr-sub-walk-expr t)
+    (walk-expr-add-walk-expr t)
+    (walk-expr-walk-expr-requires t)
+    (walk-expr-sub-walk-exprs t)
+    (walk-expr-walk-exprs-requires t)
+    (walk-expr-push-lambda-requires t)
+    (walk-expr-open-requires t)
+    (walk-expr-sub-walk-stmts t)
+    (walk-expr-add-walk-stmts t)
+    (walk-expr-walk-stmts-requires t)
+    (walk-expr-sub-walk-exprs-2 t)
+    (walk-expr-add-walk-exprs t)
+    (walk-expr-walk-exprs-requires-2 t)
+    (walk-expr-same-length t)
+    (walk-expr-returns-3 t)
+    (walk-expr-same-length-2 t)
+    (walk-expr-returns-4 t)
+    (walk-expr-same-length-3 t)
+    (walk-expr-returns-5 t)
+    (walk-expr-same-length-4 t)
+    (walk-expr-returns-6 t))
+    (λ t. walk-exprs-lts.spec (walk-exprs-calls t)
+    (walk-exprs-at t)
+    walk-exprs.Post
+    walk-exprs-Inv-loop
+    walk-exprs-μ-loop
+    (walk-exprs-loop-holds t)
+    (walk-exprs-after-row-requires t)
+    (walk-exprs-walk-expr-requires t)
+    (walk-exprs-loop-less t)
+    (walk-exprs-loop-again t)
+    (walk-exprs-same-length t)
+    (walk-exprs-returns t))
+    (λ t. walk-stmt-lts.spec (walk-stmt-calls t)
+    (walk-stmt-at t)
+    walk-stmt.Post
+    (walk-stmt-returns t)
+    (walk-stmt-returns-2 t)
+    (walk-stmt-after-row-requires t)
+    (walk-stmt-kind-requires t)
+    (walk-stmt-number-requires t)
+    (walk-stmt-define-requires t)
+    (walk-stmt-push-requires t)
+    (walk-stmt-sub-walk-block t)
+    (walk-stmt-walk-block-requires t)
+    (walk-stmt-pop-requires t)
+    (walk-stmt-reopen-requires t)
+    (walk-stmt-add-after-row t)
+    (walk-stmt-after-row-requires-2 t)
+    (walk-stmt-sub-walk-expr t)
+    (walk-stmt-add-walk-expr t)
+    (walk-stmt-walk-expr-requires t)
+    (walk-stmt-sub-walk-targets t)
+    (walk-stmt-walk-targets-requires t)
+    (walk-stmt-number-requires-2 t)
+    (walk-stmt-add-after-row-2 t)
+    (walk-stmt-after-row-requires-3 t)
+    (walk-stmt-sub-walk-expr-2 t)
+    (walk-stmt-add-walk-expr-2 t)
+    (walk-stmt-walk-expr-requires-2 t)
+    (walk-stmt-define-requires-2 t)
+    (walk-stmt-sub-walk-stmts t)
+    (walk-stmt-walk-stmts-requires t)
+    (walk-stmt-number-requires-3 t)
+    (walk-stmt-define-requires-3 t)
+    (walk-stmt-sub-walk-stmts-2 t)
+    (walk-stmt-add-walk-stmts t)
+    (walk-stmt-walk-stmts-requires-2 t)
+    (walk-stmt-judge-method-requires t)
+    (walk-stmt-sub-walk-block-2 t)
+    (walk-stmt-push-requires-2 t)
+    (walk-stmt-walk-block-requires-2 t)
+    (walk-stmt-sub-walk-stmts-3 t)
+    (walk-stmt-add-walk-stmts-2 t)
+    (walk-stmt-walk-stmts-requires-3 t)
+    (walk-stmt-same-length t)
+    (walk-stmt-returns-3 t)
+    (walk-stmt-same-length-2 t)
+    (walk-stmt-returns-4 t)
+    (walk-stmt-same-length-3 t)
+    (walk-stmt-returns-5 t)
+    (walk-stmt-same-length-4 t)
+    (walk-stmt-returns-6 t)
+    (walk-stmt-same-length-5 t)
+    (walk-stmt-returns-7 t)
+    (walk-stmt-same-length-6 t)
+    (walk-stmt-returns-8 t)
+    (walk-stmt-same-length-7 t)
+    (walk-stmt-returns-9 t)
+    (walk-stmt-same-length-8 t)
+    (walk-stmt-returns-10 t))
+    (λ t. walk-stmts-lts.spec (walk-stmts-calls t)
+    (walk-stmts-at t)
+    walk-stmts.Post
+    walk-stmts-Inv-loop
+    walk-stmts-μ-loop
+    (walk-stmts-loop-holds t)
+    (walk-stmts-after-row-requires t)
+    (walk-stmts-kind-requires t)
+    (walk-stmts-walk-stmt-requires t)
+    (walk-stmts-walk-expr-requires t)
+    (walk-stmts-loop-less t)
+    (walk-stmts-loop-again t)
+    (walk-stmts-loop-less-2 t)
+    (walk-stmts-loop-again-2 t)
+    (walk-stmts-same-length t)
+    (walk-stmts-returns t))
+    (λ t. walk-target-lts.spec (walk-target-calls t)
+    (walk-target-at t)
+    walk-target.Post
+    (walk-target-kind-requires t)
+    (walk-target-number-requires t)
+    (walk-target-define-requires t)
+    (walk-target-add-walk-exprs t)
+    (walk-target-after-row-requires t)
+    (walk-target-walk-exprs-requires t)
+    (walk-target-add-walk-exprs-2 t)
+    (walk-target-after-row-requires-2 t)
+    (walk-target-walk-exprs-requires-2 t)
+    (walk-target-put-slot-requires t)
+    (walk-target-same-length t)
+    (walk-target-returns t)
+    (walk-target-same-length-2 t)
+    (walk-target-returns-2 t)
+    (walk-target-same-length-3 t)
+    (walk-target-returns-3 t)
+    (walk-target-same-length-4 t)
+    (walk-target-returns-4 t)
+    (walk-target-same-length-5 t)
+    (walk-target-returns-5 t))
+    λ t. walk-targets-lts.spec (walk-targets-calls t)
+    (walk-targets-at t)
+    walk-targets.Post
+    walk-targets-Inv-loop
+    walk-targets-μ-loop
+    (walk-targets-loop-holds t)
+    (walk-targets-next-target-requires t)
+    (walk-targets-walk-target-requires t)
+    (walk-targets-loop-less t)
+    (walk-targets-loop-again t)
+    (walk-targets-same-length t)
+    (walk-targets-returns t)

@@ -1,0 +1,38 @@
+-- The module's scope, the given names, and the statements.
+use native.Mathlib.Omega.{arith}
+use mathlib.Core.Path.{ap, _∙_}
+use Rattle.walk_scopes.specs.declared.ScopeStack.{ScopeStack}
+use Rattle.walk_tree.proofs.Laws.{walk-whole}
+use Rattle.walk_tree.proofs.walk.Statement.{statement}
+use Rattle.walk_tree.proofs.walk.Tie as tie
+
+new-requires : tie.Need-new-requires
+new-requires c κs =
+    tt
+
+begin-requires : tie.Need-begin-requires
+begin-requires c κs =
+    omega arith
+
+walk-stmts-requires : tie.Need-walk-stmts-requires
+walk-stmts-requires c κs =
+    let n = c .before .before .before .before .before in
+    omega (arith, ap (λ (u : ScopeStack). u .block) (n .new .ensures), ap (λ (u : ScopeStack). u .end) (n .new .ensures))
+
+same-length : tie.Need-same-length
+same-length c =
+    let w = c .before .before in
+    let b = w .before .before .before .before in
+    w .walk-stmts .kept .1 .0 ∙ b .begin .kept .1 .0
+
+returns : tie.Need-returns
+returns c =
+    let w = c .before .before in
+    let b = w .before .before .before .before in
+    let n = b .before .before in
+    let a = n .before .before .before .args in
+    walk-whole (a .text .now) (a .globals) (a .rows) _ (a .work .now) _ _ (n .new .ensures) (b .begin .ensures) (w .walk-stmts .ensures)
+
+pub walk-spec : {M : Type 1} → statement M
+walk-spec =
+    tie.close (tie.spec new-requires begin-requires walk-stmts-requires same-length returns)

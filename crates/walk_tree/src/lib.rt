@@ -1,0 +1,193 @@
+// The walk over the rows of a tree: statements, lists of statements, expressions and lists of expressions call each other, and the number of
+// lines left falls at each call. Names are marked where they are bound, and the kind of a row's fault goes to its slot.
+use walk_scopes::DEF;
+use walk_scopes::METHOD;
+use walk_scopes::MODULE;
+use walk_scopes::ScopeStack;
+use work_rows::ROWS_MOST;
+ghost use mathlib.Core.Path.{_≡_};
+ghost use mathlib.Core.Bool.{false};
+ghost use Prim.Native.Nat.{_<_, _≤_};
+ghost use Rattle.work_marks.specs.Loops.{rowsTo};
+ghost use Rattle.walk_tree.specs.Walk.{nextTarget, targetAt, walkExpr, walkStmt, walkExprs, walkStmts, methodAt, blockAt, walkLine, walked};
+
+// The first kind of line that is an expression.
+const LIT: usize = 16;
+
+// The row of the next target.
+fn next_target(work: &[u32], i: usize) -> usize
+    requires { ⌜ i ≤ 16384 ⌝ }
+    ensures { λ r. ⌜ (r ≡ nextTarget (now (work .entry)) i) × (i < r) ⌝ }
+{
+    if work_rows::kind(work, i) == 24 {
+        return i + 1;
+    }
+    work_marks::after_row(work, i)
+}
+
+// A row in target position.
+fn walk_target(text: &[u8], work: &mut [u32], left: usize, s: ScopeStack, i: usize)
+    requires { ⌜ (i ≤ 8192) × (s .block ≤ 4096) × (s .end ≤ 16384) ⌝ }
+    ensures { λ _. ⌜ now (work .exit) ≡ targetAt (walkExpr left (now (text .entry)) false s) s i (now (work .entry)) ⌝ }
+{
+    match work_rows::kind(work, i) {
+        17 => s.define(work, work_rows::number(work, i)), // var
+        24 => {}, // tuple: its children are targets
+        20 => walk_exprs(text, work, left, s, i + 1, work_marks::after_row(work, i)), // index
+        22 => walk_exprs(text, work, left, s, i + 1, work_marks::after_row(work, i)), // get
+        _ => work_marks::put_slot(work, i, 14),
+    }
+}
+
+// The rows in target position, from one to another.
+fn walk_targets(
+    text: &[u8],
+    work: &mut [u32],
+    left: usize,
+    s: ScopeStack,
+    first: usize,
+    stop: usize,
+)
+    requires { ⌜ (stop ≤ 8192) × (s .block ≤ 4096) × (s .end ≤ 16384) ⌝ }
+    ensures { λ _. ⌜ now (work .exit) ≡ rowsTo nextTarget (targetAt (walkExpr left (now (text .entry)) false s) s) first stop (now (work .entry)) ⌝ }
+{
+    let mut at = first;
+    while at < stop {
+        let next = next_target(work, at);
+        walk_target(text, work, left, s, at);
+        at = next;
+    }
+}
+
+// An expression.
+fn walk_expr(text: &[u8], work: &mut [u32], left: usize, called: bool, s: ScopeStack, i: usize)
+    requires { ⌜ (s .block ≤ 4096) × (s .end ≤ 16384) ⌝ }
+    ensures { λ _. ⌜ now (work .exit) ≡ walkExpr left (now (text .entry)) called s i (now (work .entry)) ⌝ }
+{
+    if left == 0 {
+        return;
+    }
+    if ROWS_MOST <= i {
+        return;
+    }
+    let stop = work_marks::after_row(work, i);
+    match work_rows::kind(work, i) {
+        17 => walk_judge::read(work, s, called, work_rows::number(work, i), i), // var
+        21 => { // call
+            let rest = work_marks::after_row(work, i + 1);
+            walk_expr(text, work, left - 1, true, s, i + 1);
+            walk_exprs(text, work, left - 1, s, rest, stop)
+        }
+        28 => { // lambda
+            let inner = s.push_lambda(stop);
+            walk_blocks::open(text, work, inner, i, stop);
+            walk_stmts(text, work, left - 1, inner, i + 1, stop)
+        }
+        _ => walk_exprs(text, work, left - 1, s, i + 1, stop),
+    }
+}
+
+// A list of expressions.
+fn walk_exprs(text: &[u8], work: &mut [u32], left: usize, s: ScopeStack, first: usize, stop: usize)
+    requires { ⌜ (stop ≤ 16384) × (s .block ≤ 4096) × (s .end ≤ 16384) ⌝ }
+    ensures { λ _. ⌜ now (work .exit) ≡ walkExprs left (now (text .entry)) s first stop (now (work .entry)) ⌝ }
+{
+    let mut at = first;
+    while at < stop {
+        let next = work_marks::after_row(work, at);
+        walk_expr(text, work, left, false, s, at);
+        at = next;
+    }
+}
+
+// A statement, or another line of a block that is no expression.
+fn walk_stmt(text: &[u8], work: &mut [u32], left: usize, s: ScopeStack, i: usize)
+    requires { ⌜ (s .block ≤ 4096) × (s .end ≤ 16384) ⌝ }
+    ensures { λ _. ⌜ now (work .exit) ≡ walkStmt left (now (text .entry)) s i (now (work .entry)) ⌝ }
+{
+    if left == 0 {
+        return;
+    }
+    if ROWS_MOST <= i {
+        return;
+    }
+    let stop = work_marks::after_row(work, i);
+    match work_rows::kind(work, i) {
+        5 => { // def
+            s.define(work, work_rows::number(work, i));
+            let inner = s.push(DEF, i, stop);
+            walk_block(text, work, left - 1, inner, i);
+            walk_blocks::reopen(text, work, inner.pop(s))
+        }
+        6 => { // assign
+            let target = work_marks::after_row(work, i + 1);
+            walk_expr(text, work, left - 1, false, s, i + 1);
+            walk_targets(text, work, left - 1, s, target, stop)
+        }
+        10 => { // for
+            let name = work_rows::number(work, i);
+            let body = work_marks::after_row(work, i + 1);
+            walk_expr(text, work, left - 1, false, s, i + 1);
+            s.define(work, name);
+            walk_stmts(text, work, left - 1, s, body, stop)
+        }
+        13 => { // class
+            s.define(work, work_rows::number(work, i));
+            if s.home == MODULE {
+                walk_stmts(text, work, left - 1, s, i + 1, stop);
+            }
+        }
+        14 => { // method
+            judge_method(text, work, i);
+            walk_block(text, work, left - 1, s.push(METHOD, i, stop), i)
+        }
+        15 => {} // attr
+        _ => walk_stmts(text, work, left - 1, s, i + 1, stop),
+    }
+}
+
+// A method has to have `self` as its first parameter.
+fn judge_method(text: &[u8], work: &mut [u32], i: usize)
+    requires { ⌜ i < 4294967296 ⌝ }
+    ensures { λ _. ⌜ now (work .exit) ≡ methodAt (now (text .entry)) i (now (work .entry)) ⌝ }
+{
+    if read_row::lacks_self(text, work, i) {
+        work_marks::put_slot(work, i, 15);
+    }
+}
+
+// The body of the def or method at row i.
+fn walk_block(text: &[u8], work: &mut [u32], left: usize, s: ScopeStack, i: usize)
+    requires { ⌜ (i ≤ 4096) × (s .block ≤ 4096) × (s .end ≤ 16384) ⌝ }
+    ensures { λ _. ⌜ now (work .exit) ≡ blockAt (walkLine left (now (text .entry))) (now (text .entry)) s i (now (work .entry)) ⌝ }
+{
+    walk_blocks::open(text, work, s, i, s.end);
+    walk_stmts(text, work, left, s, i + 1, s.end)
+}
+
+// A list of statements, which may have expressions before them.
+fn walk_stmts(text: &[u8], work: &mut [u32], left: usize, s: ScopeStack, first: usize, stop: usize)
+    requires { ⌜ (stop ≤ 16384) × (s .block ≤ 4096) × (s .end ≤ 16384) ⌝ }
+    ensures { λ _. ⌜ now (work .exit) ≡ walkStmts left (now (text .entry)) s first stop (now (work .entry)) ⌝ }
+{
+    let mut at = first;
+    while at < stop {
+        let next = work_marks::after_row(work, at);
+        if work_rows::kind(work, at) < LIT {
+            walk_stmt(text, work, left, s, at);
+        } else {
+            walk_expr(text, work, left, false, s, at);
+        }
+        at = next;
+    }
+}
+
+// Walks the tree of so many `global` lines and so many rows: afterwards the slot of each row has the kind of its fault, or 0.
+pub fn walk(text: &[u8], work: &mut [u32], globals: usize, rows: usize)
+    requires { ⌜ (globals ≤ 4096) × (rows ≤ 4096) ⌝ }
+    ensures { λ _. ⌜ now (work .exit) ≡ walked (now (text .entry)) globals rows (now (work .entry)) ⌝ }
+{
+    let s = ScopeStack::new(rows);
+    walk_given::begin(text, work, s, globals, rows);
+    walk_stmts(text, work, rows, s, globals, rows)
+}
