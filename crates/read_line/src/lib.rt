@@ -2,6 +2,8 @@
 use read_fields::Cursor;
 use read_fields::Name;
 use read_fields::Number;
+use spec_text::line_kind;
+use spec_text::sort;
 ghost use mathlib.Core.Path.{_≡_};
 ghost use Rattle.read_line.specs.Line.{lineAt, noLine};
 ghost use Rattle.read_line.specs.Steps.{noKind, kindFrom, orWord, shapeOf, spanFrom, countFrom, ownFrom, paramsFrom};
@@ -10,9 +12,6 @@ ghost use Rattle.read_line.specs.Steps.{noKind, kindFrom, orWord, shapeO
 const LARGEST_SPAN: u32 = 4294967295;
 
 const LARGEST_COUNT: u32 = 4096;
-
-// How many words there are, which is the kind of none.
-const WORDS: usize = 29;
 
 // A line as numbers: the word's place in the table, the class of places where it is due, its span, its own name with its hash,
 // its counts, how many parameters it has, and where the next line starts. What it has not is 0.
@@ -79,7 +78,7 @@ fn no_kind() -> Kind
         ok: false,
     };
     Kind {
-        kind: WORDS,
+        kind: line_kind::COUNT, // none
         next: c,
     }
 }
@@ -91,52 +90,52 @@ fn kind_of(text: &[u8], c: Cursor) -> Kind
     let none = no_kind();
     match read_fields::byte_at(text, c.at) {
         b'a' => {
-            let k = or_word(none, 6, c, text, b"assign");
-            or_word(k, 15, c, text, b"attr")
+            let k = or_word(none, line_kind::ASSIGN, c, text, b"assign");
+            or_word(k, line_kind::ATTR, c, text, b"attr")
         }
         b'b' => {
-            let k = or_word(none, 19, c, text, b"bin");
-            or_word(k, 2, c, text, b"break")
+            let k = or_word(none, line_kind::BIN, c, text, b"bin");
+            or_word(k, line_kind::BREAK, c, text, b"break")
         }
         b'c' => {
-            let k = or_word(none, 21, c, text, b"call");
-            let k = or_word(k, 13, c, text, b"class");
-            or_word(k, 3, c, text, b"continue")
+            let k = or_word(none, line_kind::CALL, c, text, b"call");
+            let k = or_word(k, line_kind::CLASS, c, text, b"class");
+            or_word(k, line_kind::CONTINUE, c, text, b"continue")
         }
         b'd' => {
-            let k = or_word(none, 5, c, text, b"def");
-            or_word(k, 27, c, text, b"dict")
+            let k = or_word(none, line_kind::DEF, c, text, b"def");
+            or_word(k, line_kind::DICT, c, text, b"dict")
         }
         b'e' => {
-            let k = or_word(none, 12, c, text, b"expr");
-            or_word(k, 8, c, text, b"elif")
+            let k = or_word(none, line_kind::EXPR, c, text, b"expr");
+            or_word(k, line_kind::ELIF, c, text, b"elif")
         }
-        b'f' => or_word(none, 10, c, text, b"for"),
+        b'f' => or_word(none, line_kind::FOR, c, text, b"for"),
         b'g' => {
-            let k = or_word(none, 22, c, text, b"get");
-            or_word(k, 1, c, text, b"global")
+            let k = or_word(none, line_kind::GET, c, text, b"get");
+            or_word(k, line_kind::GLOBAL, c, text, b"global")
         }
         b'i' => {
-            let k = or_word(none, 7, c, text, b"if");
-            or_word(k, 20, c, text, b"index")
+            let k = or_word(none, line_kind::IF, c, text, b"if");
+            or_word(k, line_kind::INDEX, c, text, b"index")
         }
         b'l' => {
-            let k = or_word(none, 16, c, text, b"lit");
-            let k = or_word(k, 23, c, text, b"list");
-            or_word(k, 28, c, text, b"lambda")
+            let k = or_word(none, line_kind::LIT, c, text, b"lit");
+            let k = or_word(k, line_kind::LIST, c, text, b"list");
+            or_word(k, line_kind::LAMBDA, c, text, b"lambda")
         }
-        b'm' => or_word(none, 14, c, text, b"method"),
-        b'p' => or_word(none, 4, c, text, b"pass"),
-        b'r' => or_word(none, 11, c, text, b"return"),
-        b's' => or_word(none, 25, c, text, b"set"),
+        b'm' => or_word(none, line_kind::METHOD, c, text, b"method"),
+        b'p' => or_word(none, line_kind::PASS, c, text, b"pass"),
+        b'r' => or_word(none, line_kind::RETURN, c, text, b"return"),
+        b's' => or_word(none, line_kind::SET, c, text, b"set"),
         b't' => {
-            let k = or_word(none, 24, c, text, b"tuple");
-            let k = or_word(k, 0, c, text, b"tree");
-            or_word(k, 26, c, text, b"treeset")
+            let k = or_word(none, line_kind::TUPLE, c, text, b"tuple");
+            let k = or_word(k, line_kind::TREE, c, text, b"tree");
+            or_word(k, line_kind::TREESET, c, text, b"treeset")
         }
-        b'u' => or_word(none, 18, c, text, b"un"),
-        b'v' => or_word(none, 17, c, text, b"var"),
-        b'w' => or_word(none, 9, c, text, b"while"),
+        b'u' => or_word(none, line_kind::UN, c, text, b"un"),
+        b'v' => or_word(none, line_kind::VAR, c, text, b"var"),
+        b'w' => or_word(none, line_kind::WHILE, c, text, b"while"),
         _ => none,
     }
 }
@@ -158,36 +157,36 @@ pub fn shape_of(kind: usize) -> Shape
     ensures { λ r. ⌜ r ≡ shapeOf kind ⌝ }
 {
     match kind {
-        0 => row(false, false, 2, false, 0), // tree
-        1 => row(false, true, 0, false, 1), // global
-        2 => row(true, false, 0, false, 5), // break
-        3 => row(true, false, 0, false, 5), // continue
-        4 => row(true, false, 0, false, 5), // pass
-        5 => row(true, true, 1, true, 5), // def
-        6 => row(true, false, 0, false, 5), // assign
-        7 => row(true, false, 3, false, 5), // if
-        8 => row(false, false, 1, false, 2), // elif
-        9 => row(true, false, 1, false, 5), // while
-        10 => row(true, true, 1, false, 5), // for
-        11 => row(true, false, 0, false, 5), // return
-        12 => row(true, false, 0, false, 5), // expr
-        13 => row(true, true, 2, false, 5), // class
-        14 => row(false, true, 1, true, 3), // method
-        15 => row(false, true, 0, false, 4), // attr
-        16 => row(true, false, 0, false, 6), // lit
-        17 => row(true, true, 0, false, 6), // var
-        18 => row(true, false, 0, false, 6), // un
-        19 => row(true, false, 0, false, 6), // bin
-        20 => row(true, false, 0, false, 6), // index
-        21 => row(true, false, 1, false, 6), // call
-        22 => row(true, true, 0, false, 6), // get
-        23 => row(true, false, 1, false, 6), // list
-        24 => row(true, false, 1, false, 6), // tuple
-        25 => row(true, false, 1, false, 6), // set
-        26 => row(true, false, 1, false, 6), // treeset
-        27 => row(true, false, 1, false, 6), // dict
-        28 => row(true, false, 0, true, 6), // lambda
-        _ => row(false, false, 0, false, 0),
+        line_kind::TREE => row(false, false, 2, false, sort::TREE),
+        line_kind::GLOBAL => row(false, true, 0, false, sort::GLOBAL),
+        line_kind::BREAK => row(true, false, 0, false, sort::STMT),
+        line_kind::CONTINUE => row(true, false, 0, false, sort::STMT),
+        line_kind::PASS => row(true, false, 0, false, sort::STMT),
+        line_kind::DEF => row(true, true, 1, true, sort::STMT),
+        line_kind::ASSIGN => row(true, false, 0, false, sort::STMT),
+        line_kind::IF => row(true, false, 3, false, sort::STMT),
+        line_kind::ELIF => row(false, false, 1, false, sort::ELIF),
+        line_kind::WHILE => row(true, false, 1, false, sort::STMT),
+        line_kind::FOR => row(true, true, 1, false, sort::STMT),
+        line_kind::RETURN => row(true, false, 0, false, sort::STMT),
+        line_kind::EXPR => row(true, false, 0, false, sort::STMT),
+        line_kind::CLASS => row(true, true, 2, false, sort::STMT),
+        line_kind::METHOD => row(false, true, 1, true, sort::METHOD),
+        line_kind::ATTR => row(false, true, 0, false, sort::ATTR),
+        line_kind::LIT => row(true, false, 0, false, sort::EXPR),
+        line_kind::VAR => row(true, true, 0, false, sort::EXPR),
+        line_kind::UN => row(true, false, 0, false, sort::EXPR),
+        line_kind::BIN => row(true, false, 0, false, sort::EXPR),
+        line_kind::INDEX => row(true, false, 0, false, sort::EXPR),
+        line_kind::CALL => row(true, false, 1, false, sort::EXPR),
+        line_kind::GET => row(true, true, 0, false, sort::EXPR),
+        line_kind::LIST => row(true, false, 1, false, sort::EXPR),
+        line_kind::TUPLE => row(true, false, 1, false, sort::EXPR),
+        line_kind::SET => row(true, false, 1, false, sort::EXPR),
+        line_kind::TREESET => row(true, false, 1, false, sort::EXPR),
+        line_kind::DICT => row(true, false, 1, false, sort::EXPR),
+        line_kind::LAMBDA => row(true, false, 0, true, sort::EXPR),
+        _ => row(false, false, 0, false, sort::TREE),
     }
 }
 

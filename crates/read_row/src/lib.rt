@@ -1,6 +1,7 @@
 // Reads the line of a row again: its span and its name, and its parameters one after the other.
 use read_fields::Cursor;
 use read_line::Line;
+use spec_text::line_kind;
 ghost use mathlib.Core.Path.{_≡_};
 ghost use mathlib.Core.Bool.{true};
 ghost use Prim.Native.Nat.{_<_, _≤_};
@@ -12,8 +13,6 @@ ghost use Rattle.read_row.specs.Again.{nextAt, partsFrom, paramsOf, line
 const TAB: u8 = 9;
 
 const LF: u8 = 10;
-
-const LAMBDA: usize = 28;
 
 // The field at an offset.
 pub fn field(text: &[u8], at: usize) -> &[u8]
@@ -47,7 +46,7 @@ pub fn params(text: &[u8], work: &[u32], i: usize) -> Cursor
     ensures { λ r. ⌜ (partsFrom (now (text .entry)) r ≡ paramsOf (now (text .entry)) (now (work .entry)) i) × (r .more ≡ true → r .at ≤ length (now (text .entry))) ⌝ }
 {
     let mut c = Cursor::start(work_rows::offset(work, i));
-    let mut n: usize = if work_rows::kind(work, i) == LAMBDA {
+    let mut n: usize = if work_rows::kind(work, i) == line_kind::LAMBDA {
         3
     } else {
         2

@@ -1,6 +1,9 @@
 // Reads a tree text into rows, or refuses it. An agenda in the work buffer says which lines are due, so nothing recurses: each turn
 // takes one line, writes its row, and puts the lines due below it on the agenda.
 use read_line::Line;
+use spec_text::line_kind;
+use spec_text::refusal;
+use spec_text::sort;
 use work_rows::DUE_BASE;
 use work_rows::KINDS;
 ghost use mathlib.Core.Path.{_≡_};
@@ -21,6 +24,15 @@ const DEEPEST: usize = 64;
 const SHORTEST_WORK: usize = 16384;
 
 const MOST_PARAMS: usize = 16;
+
+// An entry of the agenda is a sort of lines, SORTS times the levels left, and LEVELS times how many are due; or CLOSE and LEVELS times a row.
+const SORTS: usize = 8;
+
+const DEPTHS: usize = 128;
+
+const LEVELS: usize = 1024;
+
+const CLOSE: usize = 7;
 
 // What a text is: a tree, with so many `global` lines and so many lines after the first; or refused, by number and line.
 pub enum Read {
@@ -64,22 +76,22 @@ fn refusal(ended: bool, l: Line, sort: usize, n: usize, d: usize) -> usize
     ensures { λ r. ⌜ r ≡ refusalOf ended l sort n d ⌝ }
 {
     if ended {
-        return 3;
+        return refusal::LINE_MISSING;
     }
     if !l.ok {
-        return 5;
+        return refusal::MALFORMED;
     }
     if l.sort != sort {
-        return 6;
+        return refusal::NOT_DUE;
     }
     if MOST_LINES + 1 < n {
-        return 7;
+        return refusal::OVER_LIMIT;
     }
     if MOST_PARAMS < l.params {
-        return 7;
+        return refusal::OVER_LIMIT;
     }
     if d == 0 {
-        return 7;
+        return refusal::OVER_LIMIT;
     }
     0
 }
@@ -101,15 +113,27 @@ fn children_of(kind: usize, a: usize, b: usize, c: usize) -> Children
     ensures { λ r. ⌜ r ≡ childrenBy kind a b c ⌝ }
 {
     match kind {
-        5 | 14 => each(0, a, 0, 0, 0, 0),
-        6 | 19 | 20 => each(2, 0, 0, 0, 0, 0),
-        7 => each(1, a, b, c, 0, 0),
-        8 | 9 | 10 => each(1, a, 0, 0, 0, 0),
-        11 | 12 | 15 | 18 | 22 | 28 => each(1, 0, 0, 0, 0, 0),
-        13 => each(0, 0, 0, 0, a, b),
-        21 => each(1 + a, 0, 0, 0, 0, 0),
-        23 | 24 | 25 | 26 => each(a, 0, 0, 0, 0, 0),
-        27 => each(2 * a, 0, 0, 0, 0, 0),
+        line_kind::DEF | line_kind::METHOD => each(0, a, 0, 0, 0, 0),
+        line_kind::ASSIGN | line_kind::BIN | line_kind::INDEX => each(2, 0, 0, 0, 0, 0),
+        line_kind::IF => each(1, a, b, c, 0, 0),
+        line_kind::ELIF | line_kind::WHILE | line_kind::FOR => each(1, a, 0, 0, 0, 0),
+        line_kind::RETURN
+        | line_kind::EXPR
+        | line_kind::ATTR
+        | line_kind::UN
+        | line_kind::GET
+        | line_kind::LAMBDA => each(1, 0, 0, 0, 0, 0),
+        line_kind::CLASS => each(0, 0, 0, 0, a, b),
+        line_kind::CALL => each(1 + a, 0, 0, 0, 0, 0),
+        line_kind::LIST | line_kind::TUPLE | line_kind::SET | line_kind::TREESET => each(
+            a,
+            0,
+            0,
+            0,
+            0,
+            0,
+        ),
+        line_kind::DICT => each(2 * a, 0, 0, 0, 0, 0),
         _ => each(0, 0, 0, 0, 0, 0),
     }
 }
@@ -142,7 +166,7 @@ fn push(work: &mut [u32], top: usize, sort: usize, n: usize, d: usize) -> usize
     if n == 0 {
         return top;
     }
-    work_rows::put(work, DUE_BASE + top, sort + 8 * d + 1024 * n);
+    work_rows::put(work, DUE_BASE + top, sort + SORTS * d + LEVELS * n);
     top + 1
 }
 
@@ -151,7 +175,7 @@ fn push_close(work: &mut [u32], top: usize, i: usize) -> usize
     requires { ⌜ (top < 1048576) × (i ≤ 4096) ⌝ }
     ensures { λ r. ⌜ (stack (now (work .exit)) r ≡ pushedClose i (stack (now (work .entry)) top)) × (r ≤ top + 1) ⌝ }
 {
-    work_rows::put(work, DUE_BASE + top, 7 + 1024 * i);
+    work_rows::put(work, DUE_BASE + top, CLOSE + LEVELS * i);
     top + 1
 }
 
@@ -161,12 +185,12 @@ fn push_below(work: &mut [u32], top: usize, i: usize, c: Children, d: usize) -> 
     ensures { λ r. ⌜ (stack (now (work .exit)) r ≡ pushedBelow i c d (stack (now (work .entry)) top)) × (r ≤ top + 7) ⌝ }
 {
     let t = push_close(work, top, i);
-    let t = push(work, t, 4, c.attrs, d);
-    let t = push(work, t, 3, c.methods, d);
-    let t = push(work, t, 5, c.others, d);
-    let t = push(work, t, 2, c.elifs, d);
-    let t = push(work, t, 5, c.stmts, d);
-    push(work, t, 6, c.exprs, d)
+    let t = push(work, t, sort::ATTR, c.attrs, d);
+    let t = push(work, t, sort::METHOD, c.methods, d);
+    let t = push(work, t, sort::STMT, c.others, d);
+    let t = push(work, t, sort::ELIF, c.elifs, d);
+    let t = push(work, t, sort::STMT, c.stmts, d);
+    push(work, t, sort::EXPR, c.exprs, d)
 }
 
 // Whether nothing is due below a line.
@@ -215,10 +239,10 @@ fn less(work: &mut [u32], top: usize, e: usize) -> usize
     requires { ⌜ (0 < top) × (top < 1048576) ⌝ }
     ensures { λ r. ⌜ (stack (now (work .exit)) r ≡ lessened e (stack (now (work .entry)) top)) × (r ≤ top) ⌝ }
 {
-    if e / 1024 <= 1 {
+    if e / LEVELS <= 1 {
         return top - 1;
     }
-    work_rows::put(work, DUE_BASE + top - 1, e - 1024);
+    work_rows::put(work, DUE_BASE + top - 1, e - LEVELS);
     top
 }
 
@@ -229,8 +253,8 @@ fn take(text: &[u8], work: &mut [u32], s: Progress, e: usize) -> Progress
     ensures { λ r. ⌜ machine (now (work .exit)) r ≡ taken (now (text .entry)) e (machine (now (work .entry)) s) ⌝ }
     ensures { λ r. ⌜ Bounded (now (text .entry)) r × (left (now (text .entry)) r < left (now (text .entry)) s) ⌝ }
 {
-    let d = e / 8 % 128;
-    let x = line_due(text, s.at, e % 8, s.rows + 2, d);
+    let d = e / SORTS % DEPTHS;
+    let x = line_due(text, s.at, e % SORTS, s.rows + 2, d);
     if x.refusal != 0 {
         return Progress {
             at: s.at,
@@ -265,8 +289,8 @@ fn turn(text: &[u8], work: &mut [u32], s: Progress) -> Progress
     ensures { λ r. ⌜ Bounded (now (text .entry)) r × (left (now (text .entry)) r < left (now (text .entry)) s) ⌝ }
 {
     let e = work_rows::get(work, DUE_BASE + s.top - 1);
-    if e % 8 == 7 {
-        close(work, e / 1024, s.rows);
+    if e % SORTS == CLOSE {
+        close(work, e / LEVELS, s.rows);
         return Progress {
             at: s.at,
             rows: s.rows,
@@ -304,7 +328,7 @@ fn answer(text: &[u8], globals: usize, s: Progress) -> Read
     }
     if s.at < text.len() {
         return Read::Refused {
-            number: 4,
+            number: refusal::LINE_LEFT,
             line: line,
         };
     }
@@ -321,8 +345,8 @@ fn rest(text: &[u8], work: &mut [u32], globals: usize, stmts: usize, at: usize) 
     ensures { λ r. ⌜ Answers (now (text .entry)) (ended (after globals stmts (restAt (now (text .entry)) at 2))) (now (work .exit)) r ⌝ }
 {
     read_names::clear(work);
-    let t = push(work, 0, 5, stmts, DEEPEST);
-    let top = push(work, t, 1, globals, DEEPEST);
+    let t = push(work, 0, sort::STMT, stmts, DEEPEST);
+    let top = push(work, t, sort::GLOBAL, globals, DEEPEST);
     let s = turns(
         text,
         work,
@@ -341,12 +365,18 @@ pub fn read_tree(text: &[u8], work: &mut [u32]) -> Read
     ensures { λ r. ⌜ Answers (now (text .entry)) (reading (now (text .entry)) (length (now (work .entry)))) (now (work .exit)) r ⌝ }
 {
     if LONGEST_TEXT < text.len() {
-        return Read::Refused { number: 1, line: 0 };
+        return Read::Refused {
+            number: refusal::TEXT_TOO_LONG,
+            line: 0,
+        };
     }
     if work.len() < SHORTEST_WORK {
-        return Read::Refused { number: 2, line: 0 };
+        return Read::Refused {
+            number: refusal::WORK_TOO_SHORT,
+            line: 0,
+        };
     }
-    let first = line_due(text, 0, 0, 1, 1);
+    let first = line_due(text, 0, sort::TREE, 1, 1);
     if first.refusal != 0 {
         return Read::Refused {
             number: first.refusal,

@@ -1,5 +1,6 @@
 // Messages in the Rust's words: fixed bytes written round the name.
 use report_records::Record;
+use spec_faults::fault_kind;
 ghost use mathlib.Core.Path.{_≡_};
 ghost use mathlib.Core.List.{_++_};
 ghost use Prim.Native.Nat.{_<_, _≤_};
@@ -64,9 +65,9 @@ pub fn push_message(text: &[u8], out: &mut [u8], at: usize, r: Record) -> usize
     let c = part(text, r.class, r.class_len);
     let kind = r.kind;
     match kind {
-        8 => round(out, at, b"Undefined variable: ", n, b"", c, b""),
-        9 => round(out, at, b"Undefined function: ", n, b"", c, b""),
-        10 => round(
+        fault_kind::UNDEFINED_VARIABLE => round(out, at, b"Undefined variable: ", n, b"", c, b""),
+        fault_kind::UNDEFINED_FUNCTION => round(out, at, b"Undefined function: ", n, b"", c, b""),
+        fault_kind::UNDEFINED_CAPTURE => round(
             out,
             at,
             b"Undefined variable '",
@@ -75,9 +76,9 @@ pub fn push_message(text: &[u8], out: &mut [u8], at: usize, r: Record) -> usize
             c,
             b"",
         ),
-        11 => round(out, at, b"Unbound local variable: ", n, b"", c, b""),
-        12 => round(out, at, b"Unbound local function: ", n, b"", c, b""),
-        13 => round(
+        fault_kind::UNBOUND_VARIABLE => round(out, at, b"Unbound local variable: ", n, b"", c, b""),
+        fault_kind::UNBOUND_FUNCTION => round(out, at, b"Unbound local function: ", n, b"", c, b""),
+        fault_kind::UNBOUND_CAPTURE => round(
             out,
             at,
             b"Unbound local variable '",
@@ -86,7 +87,7 @@ pub fn push_message(text: &[u8], out: &mut [u8], at: usize, r: Record) -> usize
             c,
             b"",
         ),
-        14 => round(
+        fault_kind::INVALID_TARGET => round(
             out,
             at,
             b"Invalid assignment target: cannot assign to literal, call, or expression",
@@ -95,7 +96,7 @@ pub fn push_message(text: &[u8], out: &mut [u8], at: usize, r: Record) -> usize
             c,
             b"",
         ),
-        15 => round(
+        fault_kind::METHOD_WITHOUT_SELF => round(
             out,
             at,
             b"Method '",
@@ -116,14 +117,14 @@ pub fn message_len(text: &[u8], r: Record) -> usize
     let names = part(text, r.name, r.name_len).len() + part(text, r.class, r.class_len).len();
     let kind = r.kind;
     match kind {
-        8 => 20 + names,
-        9 => 20 + names,
-        10 => 40 + names,
-        11 => 24 + names,
-        12 => 24 + names,
-        13 => 44 + names,
-        14 => 72 + names,
-        15 => 57 + names,
+        fault_kind::UNDEFINED_VARIABLE => 20 + names,
+        fault_kind::UNDEFINED_FUNCTION => 20 + names,
+        fault_kind::UNDEFINED_CAPTURE => 40 + names,
+        fault_kind::UNBOUND_VARIABLE => 24 + names,
+        fault_kind::UNBOUND_FUNCTION => 24 + names,
+        fault_kind::UNBOUND_CAPTURE => 44 + names,
+        fault_kind::INVALID_TARGET => 72 + names,
+        fault_kind::METHOD_WITHOUT_SELF => 57 + names,
         _ => 0,
     }
 }

@@ -1,4 +1,6 @@
 // Lists the faults in the report's order, from the slots: at each row those that have it as their place.
+use spec_faults::fault_kind;
+use spec_text::line_kind;
 use work_rows::DUE_BASE;
 use work_rows::ROWS_MOST;
 ghost use mathlib.Core.Path.{_≡_};
@@ -32,19 +34,20 @@ pub struct Around {
 fn is_called(kind: usize) -> bool
     ensures { λ r. ⌜ r ≡ (eqb kind 9 || eqb kind 12) ⌝ }
 {
-    kind == 9 || kind == 12
+    kind == fault_kind::UNDEFINED_FUNCTION || kind == fault_kind::UNBOUND_FUNCTION
 }
 
 fn is_capture(kind: usize) -> bool
     ensures { λ r. ⌜ r ≡ capture kind ⌝ }
 {
-    kind == 10 || kind == 13
+    kind == fault_kind::UNDEFINED_CAPTURE || kind == fault_kind::UNBOUND_CAPTURE
 }
 
 fn is_own(kind: usize) -> bool
     ensures { λ r. ⌜ r ≡ (eqb kind 8 || (eqb kind 11 || eqb kind 14)) ⌝ }
 {
-    kind == 8 || (kind == 11 || kind == 14)
+    kind == fault_kind::UNDEFINED_VARIABLE
+        || (kind == fault_kind::UNBOUND_VARIABLE || kind == fault_kind::INVALID_TARGET)
 }
 
 // The slot of row i, and 0 past the last row: there the entries stand.
@@ -113,8 +116,8 @@ fn list_itself(work: &mut [u32], class: usize, p: usize, count: usize) -> usize
     if is_own(kind) {
         return add(work, count, kind, p, p);
     }
-    if kind == 15 {
-        return add(work, count, 15, class, p);
+    if kind == fault_kind::METHOD_WITHOUT_SELF {
+        return add(work, count, fault_kind::METHOD_WITHOUT_SELF, class, p);
     }
     count
 }
@@ -125,7 +128,7 @@ fn next_around(work: &[u32], x: Around, p: usize) -> Around
     ensures { λ r. ⌜ r ≡ around (now (work .entry)) x p ⌝ }
 {
     let kind = work_rows::kind(work, p);
-    if kind == 28 {
+    if kind == line_kind::LAMBDA {
         if x.lambda <= p {
             return Around {
                 lambda: work_marks::after_row(work, p),
@@ -135,7 +138,7 @@ fn next_around(work: &[u32], x: Around, p: usize) -> Around
         }
         return x;
     }
-    if kind == 13 {
+    if kind == line_kind::CLASS {
         if x.end <= p {
             return Around {
                 lambda: x.lambda,
@@ -155,13 +158,13 @@ fn list_row(work: &mut [u32], x: Around, class: usize, p: usize, count: usize) -
 {
     let kind = work_rows::kind(work, p);
     let c = list_itself(work, class, p, count);
-    if kind == 28 {
+    if kind == line_kind::LAMBDA {
         if x.lambda <= p {
             return list_captures(work, p, work_marks::after_row(work, p), c);
         }
         return c;
     }
-    if kind == 21 {
+    if kind == line_kind::CALL {
         return list_called(work, p, c);
     }
     c

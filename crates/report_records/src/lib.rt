@@ -1,5 +1,6 @@
 // The record of a listed fault: seven numbers.
 use report_order::Entry;
+use spec_faults::fault_kind;
 ghost use mathlib.Core.Path.{_≡_};
 ghost use Prim.Native.Nat.{_<_, _≤_, _+_};
 ghost use lib.ListN.{length, take, drop};
@@ -9,11 +10,6 @@ ghost use Rattle.report_records.specs.Records.{recordOf, words};
 
 // How many numbers a record has.
 pub const RECORD: usize = 7;
-
-// The kind that has no name, and the one that has a class.
-const NAMELESS: usize = 14;
-
-const METHOD: usize = 15;
 
 pub struct Record {
     pub kind: usize,
@@ -42,8 +38,8 @@ pub fn record_of(text: &[u8], work: &[u32], e: Entry) -> Record
 {
     let of = read_row::line_of_row(text, work, e.of);
     let row = read_row::line_of_row(text, work, e.row);
-    let nameless = e.kind == NAMELESS;
-    let method = e.kind == METHOD;
+    let nameless = e.kind == fault_kind::INVALID_TARGET;
+    let method = e.kind == fault_kind::METHOD_WITHOUT_SELF;
     Record {
         kind: e.kind,
         start: of.start,

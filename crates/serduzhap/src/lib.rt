@@ -2,6 +2,7 @@
 use find_faults::Answer;
 use report_records::RECORD;
 use report_records::Record;
+use spec_text::refusal;
 ghost use mathlib.Core.Path.{_≡_};
 ghost use Prim.Native.Nat.{_<_, _≤_, _*_};
 ghost use lib.ListN.{length};
@@ -77,7 +78,7 @@ pub fn report(text: &[u8], work: &mut [u32], out: &mut [u32]) -> ReportResult
         Answer::Faults { count } => {
             if out.len() < RECORD * count {
                 return ReportResult::Refused {
-                    number: 16,
+                    number: refusal::OUTPUT_TOO_SHORT,
                     line: count,
                 };
             }

@@ -2,6 +2,7 @@
 use serduzhap::CheckResult;
 use serduzhap::MessageResult;
 use serduzhap::ReportResult;
+use spec_text::refusal;
 ghost use mathlib.Core.Path.{_≡_};
 ghost use lib.ListN.{length};
 ghost use Rattle.spec_answers.specs.Answers.{check, report, reportOut, message, messageOut, name};
@@ -129,12 +130,12 @@ pub extern "C" fn serduzhap_message(
             len: 0,
         },
         MessageResult::NoFault => MessageNumbers {
-            number: 17,
+            number: refusal::NO_SUCH_FAULT,
             line: 0,
             len: 0,
         },
         MessageResult::TooLong => MessageNumbers {
-            number: 18,
+            number: refusal::MESSAGE_TOO_LONG,
             line: 0,
             len: 0,
         },

@@ -1,4 +1,5 @@
 // Judges a read: the kind of its fault goes to its row's slot.
+use spec_faults::fault_kind;
 use walk_scopes::DEF;
 use walk_scopes::MODULE;
 use walk_scopes::ScopeStack;
@@ -12,9 +13,13 @@ fn unbound_kind(s: ScopeStack, called: bool) -> usize
     ensures { λ r. ⌜ r ≡ unboundKind s called ⌝ }
 {
     if s.outer != 0 {
-        return 13;
+        return fault_kind::UNBOUND_CAPTURE;
     }
-    if called { 12 } else { 11 }
+    if called {
+        fault_kind::UNBOUND_FUNCTION
+    } else {
+        fault_kind::UNBOUND_VARIABLE
+    }
 }
 
 // The kind of a fault of a name that is not in view.
@@ -23,10 +28,14 @@ fn undefined_kind(s: ScopeStack, called: bool) -> usize
 {
     if s.outer != 0 {
         if s.home == MODULE {
-            return 10;
+            return fault_kind::UNDEFINED_CAPTURE;
         }
     }
-    if called { 9 } else { 8 }
+    if called {
+        fault_kind::UNDEFINED_FUNCTION
+    } else {
+        fault_kind::UNDEFINED_VARIABLE
+    }
 }
 
 // Row i has a fault of this kind. A name that a lambda is blamed for counts as its parameter from there on: it is blamed once.
@@ -35,7 +44,7 @@ fn fault(work: &mut [u32], s: ScopeStack, name: usize, i: usize, kind: usize)
     ensures { λ _. ⌜ now (work .exit) ≡ faulted s name i kind (now (work .entry)) ⌝ }
 {
     work_marks::put_slot(work, i, kind);
-    if kind == 10 || kind == 13 {
+    if kind == fault_kind::UNDEFINED_CAPTURE || kind == fault_kind::UNBOUND_CAPTURE {
         work_marks::raise_lambda(work, name, s.outer);
     }
 }

@@ -1,4 +1,5 @@
 // Gathers a def's own names: each is stamped with the def, and with the first row from which it is assigned.
+use spec_text::line_kind;
 use work_marks::MARKS;
 use work_rows::ROWS_MOST;
 ghost use mathlib.Core.Path.{_≡_};
@@ -30,15 +31,15 @@ fn note_row(work: &mut [u32], b: usize, i: usize)
     ensures { λ _. ⌜ now (work .exit) ≡ rowNoted b i (now (work .entry)) ⌝ }
 {
     match work_rows::kind(work, i) {
-        5 => note(work, b, work_rows::number(work, i), NEVER), // def
-        13 => note(work, b, work_rows::number(work, i), NEVER), // class
-        10 => note(
+        line_kind::DEF => note(work, b, work_rows::number(work, i), NEVER),
+        line_kind::CLASS => note(work, b, work_rows::number(work, i), NEVER),
+        line_kind::FOR => note(
             work,
             b,
             work_rows::number(work, i),
             work_marks::after_row(work, i + 1),
-        ), // for
-        17 => note(work, b, work_rows::number(work, i), i + 1), // var
+        ),
+        line_kind::VAR => note(work, b, work_rows::number(work, i), i + 1),
         _ => {}
     }
 }
@@ -49,10 +50,10 @@ fn next_row(work: &[u32], i: usize) -> usize
     ensures { λ r. ⌜ (r ≡ nextNoted (now (work .entry)) i) × (i < r) ⌝ }
 {
     let kind = work_rows::kind(work, i);
-    if 6 <= kind && kind <= 10 {
+    if line_kind::ASSIGN <= kind && kind <= line_kind::FOR {
         return work_marks::after_row(work, i + 1);
     }
-    if kind == 24 {
+    if kind == line_kind::TUPLE {
         return i + 1;
     }
     work_marks::after_row(work, i)

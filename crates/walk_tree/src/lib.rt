@@ -1,5 +1,7 @@
 // The walk over the rows of a tree: statements, lists of statements, expressions and lists of expressions call each other, and the number of
 // lines left falls at each call. Names are marked where they are bound, and the kind of a row's fault goes to its slot.
+use spec_faults::fault_kind;
+use spec_text::line_kind;
 use walk_scopes::DEF;
 use walk_scopes::METHOD;
 use walk_scopes::MODULE;
@@ -11,15 +13,12 @@ ghost use Prim.Native.Nat.{_<_, _≤_};
 ghost use Rattle.work_marks.specs.Loops.{rowsTo};
 ghost use Rattle.walk_tree.specs.Walk.{nextTarget, targetAt, walkExpr, walkStmt, walkExprs, walkStmts, methodAt, blockAt, walkLine, walked};
 
-// The first kind of line that is an expression.
-const LIT: usize = 16;
-
 // The row of the next target.
 fn next_target(work: &[u32], i: usize) -> usize
     requires { ⌜ i ≤ 16384 ⌝ }
     ensures { λ r. ⌜ (r ≡ nextTarget (now (work .entry)) i) × (i < r) ⌝ }
 {
-    if work_rows::kind(work, i) == 24 {
+    if work_rows::kind(work, i) == line_kind::TUPLE {
         return i + 1;
     }
     work_marks::after_row(work, i)
@@ -31,11 +30,11 @@ fn walk_target(text: &[u8], work: &mut [u32], left: usize, s: ScopeStack, i: usi
     ensures { λ _. ⌜ now (work .exit) ≡ targetAt (walkExpr left (now (text .entry)) false s) s i (now (work .entry)) ⌝ }
 {
     match work_rows::kind(work, i) {
-        17 => s.define(work, work_rows::number(work, i)), // var
-        24 => {}, // tuple: its children are targets
-        20 => walk_exprs(text, work, left, s, i + 1, work_marks::after_row(work, i)), // index
-        22 => walk_exprs(text, work, left, s, i + 1, work_marks::after_row(work, i)), // get
-        _ => work_marks::put_slot(work, i, 14),
+        line_kind::VAR => s.define(work, work_rows::number(work, i)),
+        line_kind::TUPLE => {}, // its children are targets
+        line_kind::INDEX => walk_exprs(text, work, left, s, i + 1, work_marks::after_row(work, i)),
+        line_kind::GET => walk_exprs(text, work, left, s, i + 1, work_marks::after_row(work, i)),
+        _ => work_marks::put_slot(work, i, fault_kind::INVALID_TARGET),
     }
 }
 
@@ -72,13 +71,13 @@ fn walk_expr(text: &[u8], work: &mut [u32], left: usize, called: bool, s: ScopeS
     }
     let stop = work_marks::after_row(work, i);
     match work_rows::kind(work, i) {
-        17 => walk_judge::read(work, s, called, work_rows::number(work, i), i), // var
-        21 => { // call
+        line_kind::VAR => walk_judge::read(work, s, called, work_rows::number(work, i), i),
+        line_kind::CALL => {
             let rest = work_marks::after_row(work, i + 1);
             walk_expr(text, work, left - 1, true, s, i + 1);
             walk_exprs(text, work, left - 1, s, rest, stop)
         }
-        28 => { // lambda
+        line_kind::LAMBDA => {
             let inner = s.push_lambda(stop);
             walk_blocks::open(text, work, inner, i, stop);
             walk_stmts(text, work, left - 1, inner, i + 1, stop)
@@ -113,35 +112,35 @@ fn walk_stmt(text: &[u8], work: &mut [u32], left: usize, s: ScopeStack, i: usize
     }
     let stop = work_marks::after_row(work, i);
     match work_rows::kind(work, i) {
-        5 => { // def
+        line_kind::DEF => {
             s.define(work, work_rows::number(work, i));
             let inner = s.push(DEF, i, stop);
             walk_block(text, work, left - 1, inner, i);
             walk_blocks::reopen(text, work, inner.pop(s))
         }
-        6 => { // assign
+        line_kind::ASSIGN => {
             let target = work_marks::after_row(work, i + 1);
             walk_expr(text, work, left - 1, false, s, i + 1);
             walk_targets(text, work, left - 1, s, target, stop)
         }
-        10 => { // for
+        line_kind::FOR => {
             let name = work_rows::number(work, i);
             let body = work_marks::after_row(work, i + 1);
             walk_expr(text, work, left - 1, false, s, i + 1);
             s.define(work, name);
             walk_stmts(text, work, left - 1, s, body, stop)
         }
-        13 => { // class
+        line_kind::CLASS => {
             s.define(work, work_rows::number(work, i));
             if s.home == MODULE {
                 walk_stmts(text, work, left - 1, s, i + 1, stop);
             }
         }
-        14 => { // method
+        line_kind::METHOD => {
             judge_method(text, work, i);
             walk_block(text, work, left - 1, s.push(METHOD, i, stop), i)
         }
-        15 => {} // attr
+        line_kind::ATTR => {}
         _ => walk_stmts(text, work, left - 1, s, i + 1, stop),
     }
 }
@@ -152,7 +151,7 @@ fn judge_method(text: &[u8], work: &mut [u32], i: usize)
     ensures { λ _. ⌜ now (work .exit) ≡ methodAt (now (text .entry)) i (now (work .entry)) ⌝ }
 {
     if read_row::lacks_self(text, work, i) {
-        work_marks::put_slot(work, i, 15);
+        work_marks::put_slot(work, i, fault_kind::METHOD_WITHOUT_SELF);
     }
 }
 
@@ -173,7 +172,7 @@ fn walk_stmts(text: &[u8], work: &mut [u32], left: usize, s: ScopeStack, first: 
     let mut at = first;
     while at < stop {
         let next = work_marks::after_row(work, at);
-        if work_rows::kind(work, at) < LIT {
+        if work_rows::kind(work, at) < line_kind::LIT {
             walk_stmt(text, work, left, s, at);
         } else {
             walk_expr(text, work, left, false, s, at);
