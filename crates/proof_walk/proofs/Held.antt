@@ -8,11 +8,12 @@ use mathlib.Core.List.{List, _∷_, _++_, append-assoc}
 use lib.Dec.{leb, ltb}
 use lib.ListN.{length, getD, drop, length-append, length-drop}
 use lib.Seq.{drop-cons, drop-drop, drop-append-seam}
-use borrow.Author.Tests.{leb-true, ltb-true}
+use borrow.Author.Tests.{ltb-true}
 use Rattle.spec_text.specs.Bytes.{Bytes, same}
 use Rattle.spec_text.specs.Tree.{Line, Expr, Stmt, var, node, access, tuple, call, lambda, simple, assign, block, choice, for, def, class, lenE, lenS}
 use Rattle.read_fields.specs.Fields.{fieldAt, hashOf}
 use Rattle.work_rows.specs.Layout.{rowsMost, kindAt, numberAt, offsetAt, sameAt}
+use Rattle.read_names.proofs.Steps.{link-falls}
 use Rattle.read_names.specs.Chains.{headAt, linkAt, walk, lookup}
 use Rattle.read_tree.specs.Rows.{Row, row, rowsE, rowsS}
 use Rattle.read_tree.specs.Laid.{noRow}
@@ -51,12 +52,6 @@ module _ {rows : List Row} {i : ℕ} where
   -- the same, past a part of so many lines
   pub here-past : {a : List Row} {n : ℕ} → Sized a n → (b : List Row) → Here rows i (a ++ b) → Here rows (i + n) b
   here-past {a} {n} z b h = subst (λ k. Here rows (i + k) b) (z .count) (here-right a b h)
-
-  pub here-room : {part : List Row} → i ≤ length rows → Here rows i part → i + length part ≤ length rows
-  here-room l h = omega (arith, here-length h)
-
-  pub here-first : {x : Row} {part : List Row} → Here rows i (x ∷ part) → i + suc (length part) ≤ length rows
-  here-first {x} {part} h = let l = head-row h .0 in here-room {part = x ∷ part} (omega arith) h
 
 -- ---- the row of a line
 module _ {text : Bytes} {rows : List Row} {num : Bytes → ℕ} {w : List ℕ} (t : Table text rows num w) {i : ℕ} {l : Line} {n : ℕ} {part : List Row} (h : Here rows i (row l n ∷ part)) where
@@ -107,13 +102,6 @@ module _ {text : Bytes} {rows : List Row} {num : Bytes → ℕ} {w : List ℕ} (
   after-S (class l ms ats) h = row-after t h
 
 -- ---- what the walk keeps
-link-falls : (w : List ℕ) (j : ℕ) → linkAt w j ≤ j
-link-falls w j = go (leb (sameAt w j - rowsMost) j) refl
-  where
-    go : (t : Bool) → leb (sameAt w j - rowsMost) j ≡ t → cond t (sameAt w j - rowsMost) 0 ≤ j
-    go true e = leb-true (sameAt w j - rowsMost) j e
-    go false e = omega arith
-
 module _ {w v : List ℕ} (k : Kept w v) where
   kept-head : (h : ℕ) → headAt v h ≡ headAt w h
   kept-head h = k .heads (h % 4_096) (omega arith)

@@ -25,15 +25,6 @@ use Rattle.proof_walk.proofs.State.{Stamped, Fair}
 abbrev pub Stamps : ℕ → List ℕ → List ℕ → Type 0
 Stamps b w v = (a : ℕ) → a < 4_096 → (stampAt v a ≡ stampAt w a) ⊎ (stampAt v a / 8_192 ≡ b + 1)
 
-module _ (b : ℕ) (w v : List ℕ) (p : Stamps b w v) (a : ℕ) (l : a < 4_096) where
-  -- the stamps of another def stay
-  pub stamp-apart : (c : ℕ) → (c ≡ b → ⊥) → stampAt v a / 8_192 ≡ c + 1 → stampAt v a ≡ stampAt w a
-  stamp-apart c d e = go (p a l)
-    where
-      go : (stampAt v a ≡ stampAt w a) ⊎ (stampAt v a / 8_192 ≡ b + 1) → stampAt v a ≡ stampAt w a
-      go (inl s) = s
-      go (inr s) = absurd (d (omega arith))
-
 -- nothing else changes
 pub record Restamped (b : ℕ) (w v : List ℕ) : Type 0 where
   pub kept : Kept w v

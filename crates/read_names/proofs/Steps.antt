@@ -37,7 +37,7 @@ module _ (w : List ℕ) (j s : ℕ) (e : s ≡ sameAt w j) where
   pub link-over : j < s - rowsMost → 0 ≡ linkAt w j
   link-over l = rw (← e, lt-leb (s - rowsMost) j l)
 
-link-falls : (w : List ℕ) (j : ℕ) → linkAt w j ≤ j
+pub link-falls : (w : List ℕ) (j : ℕ) → linkAt w j ≤ j
 link-falls w j = go (leb (sameAt w j - rowsMost) j) refl
   where
     go : (t : Bool) → leb (sameAt w j - rowsMost) j ≡ t → cond t (sameAt w j - rowsMost) 0 ≤ j

@@ -20,7 +20,7 @@ const HASHES: usize = 4096;
 const HEADS: usize = 8192;
 
 // The part of the text from an offset on; none where it is not inside.
-fn part(text: &[u8], at: usize, len: usize) -> &[u8]
+pub fn part(text: &[u8], at: usize, len: usize) -> &[u8]
     ensures { λ r. ⌜ now r ≡ partOf (now (text .entry)) at len ⌝ }
 {
     if at <= text.len() {

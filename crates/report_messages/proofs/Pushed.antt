@@ -77,11 +77,6 @@ length-pushed =
     by-bytes (λ old at new out to. length out ≡ length old) (λ old at. refl) (λ old at new h. refl)
     (λ old at b new out to h e. e ∙ length-set old at b)
 
-pub to-inside : (old : List ℕ) (at : ℕ) (new : List ℕ) → at ≤ length old → pushedTo old at new ≤ length old
-to-inside =
-    by-bytes (λ old at new out to. at ≤ length old → to ≤ length old) (λ old at h. h) (λ old at new f h. h)
-    (λ old at b new out to room e h. omega (arith, length-set old at b, e (omega (arith, length-set old at b))))
-
 -- pushed in two parts
 module _ (more : List ℕ) where
   pub pushed-more : (old : List ℕ) (at : ℕ) (new : List ℕ) → pushed (pushed old at new) (pushedTo old at new) more ≡ pushed old at (new ++ more)

@@ -5,21 +5,7 @@ ghost use mathlib.Core.Path.{_≡_};
 ghost use mathlib.Core.List.{_++_};
 ghost use Prim.Native.Nat.{_<_, _≤_};
 ghost use lib.ListN.{length};
-ghost use Rattle.read_names.specs.Chains.{partOf};
 ghost use Rattle.report_messages.specs.Messages.{messageOf, Pushes};
-
-// The part of the text from an offset on; none where it is not inside.
-pub fn part(text: &[u8], at: usize, len: usize) -> &[u8]
-    ensures { λ r. ⌜ now r ≡ partOf (now (text .entry)) at len ⌝ }
-{
-    if at <= text.len() {
-        if len <= text.len() - at {
-            let end = at + len;
-            return &text[at..end];
-        }
-    }
-    &text[0..0]
-}
 
 // Pushes bytes to a buffer that is filled up to an offset, as many as there is room for; answers how far it is filled.
 pub fn push(out: &mut [u8], at: usize, bytes: &[u8]) -> usize
@@ -61,8 +47,8 @@ pub fn push_message(text: &[u8], out: &mut [u8], at: usize, r: Record) -> usize
     requires { ⌜ at ≤ length (now out) ⌝ }
     ensures { λ e. ⌜ Pushes (now (out .entry)) at (messageOf (now (text .entry)) r) (now (out .exit)) e ⌝ }
 {
-    let n = part(text, r.name, r.name_len);
-    let c = part(text, r.class, r.class_len);
+    let n = read_names::part(text, r.name, r.name_len);
+    let c = read_names::part(text, r.class, r.class_len);
     let kind = r.kind;
     match kind {
         fault_kind::UNDEFINED_VARIABLE => round(out, at, b"Undefined variable: ", n, b"", c, b""),
@@ -114,7 +100,8 @@ pub fn message_len(text: &[u8], r: Record) -> usize
     requires { ⌜ length (now text) < 4294967296 ⌝ }
     ensures { λ n. ⌜ n ≡ length (messageOf (now (text .entry)) r) ⌝ }
 {
-    let names = part(text, r.name, r.name_len).len() + part(text, r.class, r.class_len).len();
+    let names = read_names::part(text, r.name, r.name_len).len()
+        + read_names::part(text, r.class, r.class_len).len();
     let kind = r.kind;
     match kind {
         fault_kind::UNDEFINED_VARIABLE => 20 + names,

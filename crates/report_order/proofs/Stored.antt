@@ -1,13 +1,13 @@
 -- Entries are written one after another, past the rows and the slots. So what is listed from a buffer is the same after any entries are
 -- written, and a list of entries can be written part by part.
-use Prim.Native.Nat.{ℕ, zero, suc, _+_, _/_, _%_, _≤_, _<_}
+use Prim.Native.Nat.{ℕ, zero, suc, _+_, _/_, _≤_, _<_}
 use native.Mathlib.Omega.{arith}
 use mathlib.Core.Path.{_≡_, refl, sym, ap, ap₂, _∙_, subst}
 use mathlib.Core.Bool.{Bool, true, false, cond, _||_}
 use mathlib.Core.List.{List, [], _∷_, _++_}
 use lib.Dec.{eqb, ltb}
-use lib.ListN.{length, getD, length-append, length-set}
-use lib.Seq.{getD-set-same, getD-set-other}
+use lib.ListN.{length, getD, length-append}
+use lib.Seq.{getD-set-other}
 use borrow.Author.Tests.{ltb-true}
 use Rattle.spec_faults.specs.Faults.{capture}
 use Rattle.work_rows.specs.Layout.{put, rowsMost, dueBase}
@@ -75,18 +75,6 @@ stored-append [] b j w = ap (λ k. stored b k w) (let e : j ≡ j + 0 = omega ar
 stored-append (e ∷ a) b j w =
     stored-append a b (j + 1) (put w (dueBase + j) e)
     ∙ ap (λ k. stored b k (stored a (j + 1) (put w (dueBase + j) e))) (let q : j + 1 + length a ≡ j + suc (length a) = omega arith in q)
-
--- where there is room, the k-th is there
-pub stored-at : (es : List ℕ) (j : ℕ) (w : List ℕ) (k : ℕ) → k < length es → dueBase + (j + length es) ≤ length w
-    → getD (stored es j w) (dueBase + (j + k)) 0 ≡ getD es k 0 % 4_294_967_296
-unfolding stored
-stored-at [] j w k l r = absurd (omega arith)
-stored-at (e ∷ es) j w zero l r =
-    ap (λ i. getD (stored es (j + 1) (put w (dueBase + j) e)) i 0) (let q : dueBase + (j + 0) ≡ dueBase + j = omega arith in q)
-    ∙ (stored-before es (j + 1) (put w (dueBase + j) e) (dueBase + j) (omega arith) ∙ getD-set-same w (dueBase + j) _ 0 (omega arith))
-stored-at (e ∷ es) j w (suc k) l r =
-    ap (λ i. getD (stored es (j + 1) (put w (dueBase + j) e)) i 0) (let q : dueBase + (j + suc k) ≡ dueBase + (j + 1 + k) = omega arith in q)
-    ∙ stored-at es (j + 1) (put w (dueBase + j) e) k (omega arith) (omega (arith, length-set w (dueBase + j) (e % 4_294_967_296)))
 
 -- what is left to write from the c-th on gives the same as all of it from the first on
 pub record Left (rest : List ℕ) (c : ℕ) (w : List ℕ) (all : List ℕ) (from : ℕ) (v : List ℕ) : Type 0 where

@@ -147,5 +147,5 @@ pub fn name<'a>(text: &'a [u8], work: &mut [u32], i: usize) -> &'a [u8]
     ensures { λ r. ⌜ now r ≡ name (now (text .entry)) (length (now (work .entry))) i .bytes ⌝ }
 {
     let p = name_part(text, work, i);
-    report_messages::part(text, p.offset, p.len)
+    read_names::part(text, p.offset, p.len)
 }

@@ -1,9 +1,8 @@
 -- The rule "once for a lambda and a name" on the faults in the text's order: of the captures of one lambda and one name, the first stays.
 -- To do this before sorting by place is to do it at each line alone: of the captures before, only those placed at a line count there.
 -- By induction over the list, with the captures before it; what is left is a part of the list, in its order.
-use Prim.Native.Nat.{ℕ, suc, _+_, _≤_}
-use native.Mathlib.Omega.{arith}
-use mathlib.Core.Path.{_≡_, refl, sym, ap, _∙_, subst}
+use Prim.Native.Nat.{ℕ}
+use mathlib.Core.Path.{_≡_, refl, sym, ap, _∙_}
 use mathlib.Core.Bool.{Bool, true, false, cond, _&&_, _||_}
 use mathlib.Core.List.{List, [], _∷_, _++_, map}
 use lib.Dec.{eqb}
@@ -13,7 +12,6 @@ use Rattle.spec_text.specs.Tree.{Tree, lenSs, firstLine}
 use Rattle.spec_faults.specs.Faults.{Fault, capture, byPlace, faults}
 use Rattle.spec_faults.proofs.Lists.{All, also}
 use Rattle.spec_faults.proofs.Walk.{once, moduleEnv, startState}
-use Rattle.spec_faults.proofs.Ascending.{next, ascend-from, Lined, faults-ascend}
 use Rattle.spec_faults.proofs.Once.{placed, byPlaceOnce, by-place, faults-once}
 use Rattle.spec_faults.proofs.Raw.{rawSs, raw-faults}
 
@@ -110,16 +108,3 @@ dedupe-all {P} seen {fs} a = dedupe-by (λ l m. All P l → All P m) (λ a. a) (
 
     more : {f : Fault} {l m : List Fault} → (All P l → All P m) → All P (f ∷ l) → All P (f ∷ m)
     more k (also h r) = also h (k r)
-
--- it ascends by line where the list does
-pub dedupe-ascend : (seen : List Fault) {lo hi : ℕ} {fs : List Fault} → Lined lo hi fs → Lined lo hi (dedupe seen fs)
-dedupe-ascend seen {lo} {hi} {fs} a = dedupe-by (λ l m. (lo : ℕ) → Lined lo hi l → Lined lo hi m) (λ lo a. a) (λ f l m k lo. less k) (λ f l m k lo. more k) seen fs lo a
-  where
-    less : {lo : ℕ} {f : Fault} {l m : List Fault} → ((lo : ℕ) → Lined lo hi l → Lined lo hi m) → Lined lo hi (f ∷ l) → Lined lo hi m
-    less {lo} {f} k (next h r) = k lo (ascend-from (let i : lo ≤ suc (f .line) = omega arith in i) r)
-
-    more : {lo : ℕ} {f : Fault} {l m : List Fault} → ((lo : ℕ) → Lined lo hi l → Lined lo hi m) → Lined lo hi (f ∷ l) → Lined lo hi (f ∷ m)
-    more {lo} {f} k (next h r) = next h (k (suc (f .line)) r)
-
-pub deduped-ascend : (t : Tree) → Lined (firstLine t) (firstLine t + lenSs (t .body)) (dedupe [] (rawSs (t .body) (firstLine t) [] moduleEnv (startState t)))
-deduped-ascend t = dedupe-ascend [] (subst (Lined (firstLine t) (firstLine t + lenSs (t .body))) (raw-faults t) (faults-ascend t))

@@ -177,9 +177,6 @@ own-two k x a c p q e f = any-append _ a c ∙ ap₂ _||_ e f ∙ sym (mem-appen
 own-none : (k n m h : ℕ) (x : Bytes) (D : List Binding) → k < n → ((j : ℕ) → Range j n m h D) → ownIn k x D ≡ false
 own-none k n m h x D l r = quiet (suc k) n m h k D (λ e. omega arith) (λ p q. omega arith) (r (suc k)) (λ b. same x (b .name .bytes))
 
-own-here : (h : How) (k f : ℕ) (x : Bytes) (y : Part) → ownIn k x (bind h k f y ∷ []) ≡ same x (y .bytes)
-own-here h k f x y = rw (eqb-same, or-false)
-
 mutual
   localsT : (t : Expr) (n k : ℕ) (x : Bytes) → k < n → ownIn k x (bindsT t n k) ≡ mem x (collect-locals-from-target t)
   localsT (var l) n k x p = own-two k x (bind byTarget k (suc n) (l .name) ∷ []) [] (l .name ∷ []) [] (rw eqb-same) refl

@@ -1,12 +1,11 @@
 -- Refusals 2 to 7 as one theorem, a table: document 01's examples, the limits of script l met and passed, and the open points that
 -- docs/DECISIONS.md settles. By computation. (Texts of 65,536 bytes and of 4,098 lines: the crate `spec_answers`, proofs/Limits.antt.)
-use Prim.Native.Nat.{ℕ, zero, suc, _+_}
+use Prim.Native.Nat.{ℕ, zero, suc}
 use Prim.Native.String.{String}
 use mathlib.Core.Path.{_≡_, refl}
 use mathlib.Core.List.{List, [], _∷_, _++_, map}
 use lib.ListN.{replicate}
 use Rattle.spec_text.specs.Bytes.{Bytes, bytes}
-use Rattle.spec_text.specs.Tree.{Tree}
 use Rattle.spec_text.specs.Reading.{Reading, tree, refusal, reading}
 
 -- what is shown of a reading: that a tree was read, or the refusal and its line

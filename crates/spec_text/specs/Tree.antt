@@ -100,6 +100,3 @@ abbrev mutual
 -- Lines are numbered from 1, which is the line `tree`; the `global` lines follow, then the statements.
 abbrev pub firstLine : Tree → ℕ
 firstLine t = suc (suc (length (t .globals)))
-
-abbrev pub lineCount : Tree → ℕ
-lineCount t = suc (length (t .globals) + lenSs (t .body))

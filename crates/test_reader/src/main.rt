@@ -8,8 +8,7 @@
 // The work buffer is filled with 4,294,967,295 before each.
 use read_tree::Read;
 use test_frames::Step;
-ghost use Prim.Native.Nat.{_+_, _≤_, _<_};
-ghost use lib.ListN.{length};
+ghost use Prim.Native.Nat.{_+_, _<_};
 
 // A sum over the rows.
 fn sum_of(work: &[u32], lines: usize) -> usize {

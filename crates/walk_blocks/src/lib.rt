@@ -1,5 +1,5 @@
 // The way into a block: its parameters are bound, and a def's own names are noted.
-use walk_scopes::DEF;
+use walk_scopes::HOME_DEF;
 use walk_scopes::ScopeStack;
 ghost use mathlib.Core.Path.{_≡_};
 ghost use Prim.Native.Nat.{_<_, _≤_};
@@ -48,7 +48,7 @@ pub fn reopen(text: &[u8], work: &mut [u32], s: ScopeStack)
     requires { ⌜ (s .block ≤ 4096) × (s .end ≤ 16384) ⌝ }
     ensures { λ _. ⌜ now (work .exit) ≡ reopened (now (text .entry)) s (now (work .entry)) ⌝ }
 {
-    if s.home == DEF {
+    if s.home == HOME_DEF {
         open(text, work, s, s.block, s.end);
     }
 }

@@ -1,7 +1,7 @@
 // Judges a read: the kind of its fault goes to its row's slot.
 use spec_faults::fault_kind;
-use walk_scopes::DEF;
-use walk_scopes::MODULE;
+use walk_scopes::HOME_DEF;
+use walk_scopes::HOME_MODULE;
 use walk_scopes::ScopeStack;
 use work_marks::MARKS;
 ghost use mathlib.Core.Path.{_≡_};
@@ -27,7 +27,7 @@ fn undefined_kind(s: ScopeStack, called: bool) -> usize
     ensures { λ r. ⌜ r ≡ undefinedKind s called ⌝ }
 {
     if s.outer != 0 {
-        if s.home == MODULE {
+        if s.home == HOME_MODULE {
             return fault_kind::UNDEFINED_CAPTURE;
         }
     }
@@ -58,7 +58,7 @@ pub fn read(work: &mut [u32], s: ScopeStack, called: bool, name: usize, i: usize
         return;
     }
     let stamp = work_marks::stamp(work, name);
-    if s.home == DEF && stamp / MARKS == s.block + 1 {
+    if s.home == HOME_DEF && stamp / MARKS == s.block + 1 {
         if i < stamp % MARKS {
             fault(work, s, name, i, unbound_kind(s, called));
         }

@@ -5,11 +5,11 @@ ghost use Prim.Native.Nat.{_<_};
 ghost use Rattle.walk_scopes.specs.Scopes.{atModule, pushed, pushedLambda, owns, defined, isDefined};
 
 // Homes.
-pub const MODULE: usize = 0;
+pub const HOME_MODULE: usize = 0;
 
-pub const DEF: usize = 1;
+pub const HOME_DEF: usize = 1;
 
-pub const METHOD: usize = 2;
+pub const HOME_METHOD: usize = 2;
 
 // The top of the stack: the home, its row and the row after it; the rows after the outermost and the innermost lambda, or 0.
 // The scopes below are with whoever pushed.
@@ -27,7 +27,7 @@ impl ScopeStack {
         ensures { λ r. ⌜ r ≡ atModule rows ⌝ }
     {
         ScopeStack {
-            home: MODULE,
+            home: HOME_MODULE,
             block: 0,
             end: rows,
             outer: 0,
@@ -73,7 +73,7 @@ impl ScopeStack {
     pub fn owns(self) -> bool
         ensures { λ r. ⌜ r ≡ owns self ⌝ }
     {
-        self.home == DEF && self.inner == 0
+        self.home == HOME_DEF && self.inner == 0
     }
 
     // Binds a name in the top scope.

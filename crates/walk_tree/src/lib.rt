@@ -2,9 +2,9 @@
 // lines left falls at each call. Names are marked where they are bound, and the kind of a row's fault goes to its slot.
 use spec_faults::fault_kind;
 use spec_text::line_kind;
-use walk_scopes::DEF;
-use walk_scopes::METHOD;
-use walk_scopes::MODULE;
+use walk_scopes::HOME_DEF;
+use walk_scopes::HOME_METHOD;
+use walk_scopes::HOME_MODULE;
 use walk_scopes::ScopeStack;
 use work_rows::ROWS_MOST;
 ghost use mathlib.Core.Path.{_≡_};
@@ -114,7 +114,7 @@ fn walk_stmt(text: &[u8], work: &mut [u32], left: usize, s: ScopeStack, i: usize
     match work_rows::kind(work, i) {
         line_kind::DEF => {
             s.define(work, work_rows::number(work, i));
-            let inner = s.push(DEF, i, stop);
+            let inner = s.push(HOME_DEF, i, stop);
             walk_block(text, work, left - 1, inner, i);
             walk_blocks::reopen(text, work, inner.pop(s))
         }
@@ -132,13 +132,13 @@ fn walk_stmt(text: &[u8], work: &mut [u32], left: usize, s: ScopeStack, i: usize
         }
         line_kind::CLASS => {
             s.define(work, work_rows::number(work, i));
-            if s.home == MODULE {
+            if s.home == HOME_MODULE {
                 walk_stmts(text, work, left - 1, s, i + 1, stop);
             }
         }
         line_kind::METHOD => {
             judge_method(text, work, i);
-            walk_block(text, work, left - 1, s.push(METHOD, i, stop), i)
+            walk_block(text, work, left - 1, s.push(HOME_METHOD, i, stop), i)
         }
         line_kind::ATTR => {}
         _ => walk_stmts(text, work, left - 1, s, i + 1, stop),

@@ -11,7 +11,7 @@ use lib.ListN.{length, getD, length-set}
 use lib.Seq.{getD-set-same, getD-set-other, set-out}
 use borrow.Author.Tests.{eqb-true, eqb-false, ltb-true, ltb-false}
 use Rattle.work_rows.specs.Layout.{put, rowsMost, headBase, dueBase, kindAt, numberAt}
-use Rattle.work_marks.specs.Marks.{afterRow, lambdaEnd, blockEnd, slotAt, stampAt, putLambdaEnd, putBlockEnd, raisedLambda, raisedBlock, putSlot, putStamp}
+use Rattle.work_marks.specs.Marks.{lambdaEnd, blockEnd, slotAt, stampAt, putLambdaEnd, putBlockEnd, raisedLambda, raisedBlock, putSlot, putStamp}
 use Rattle.work_marks.proofs.Raised.{raise-has}
 
 -- ---- a number is written
@@ -74,9 +74,6 @@ kept-put w k v row second head = record {
 module _ {w v : List ℕ} (k : Kept w v) (i : ℕ) (l : i < 4_096) where
   pub kept-kind : kindAt v i ≡ kindAt w i
   kept-kind = omega (arith, k .rows i l)
-
-  pub kept-after : afterRow v i ≡ afterRow w i
-  kept-after = omega (arith, k .rows i l)
 
   pub kept-number : numberAt v i ≡ numberAt w i
   kept-number = ap (λ x. cond (ltb (x / 65_536) rowsMost) (x / 65_536) i) (k .seconds i l)
