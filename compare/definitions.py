@@ -40,7 +40,7 @@ use Rattle.spec_text.specs.Tree.{Tree}
 use Rattle.spec_text.specs.Reading.{Reading, tree, refusal, reading}
 use Rattle.spec_faults.specs.Faults.{Fault, faults, fullReport, records, messageOf}
 use Rattle.spec_faults.specs.Rust.{SemanticError, Checked, analyze-with-globals}
-use Rattle.spec_faults.proofs.Walk.{walk}
+use Rattle.spec_faults.proofs.ListingWalk.{walk}
 use Rattle.spec_answers.specs.Answers.{CheckAnswer, accepted, faulty, ReportAnswer, written, MessageAnswer, wrote, noFault, tooLong, check, report, message, name}
 use Rattle.spec_answers.specs.Printed.{printed}
 

@@ -14,12 +14,12 @@ use Rattle.spec_text.specs.Bytes.{Bytes, Part, noPart, all, isName, isNameByte,
 use Rattle.spec_text.specs.Tree.{Tree, lenSs, firstLine}
 use Rattle.spec_text.specs.Reading.{tree, reading}
 use Rattle.spec_text.proofs.Lists.{and-split}
-use Rattle.spec_text.proofs.Parts.{IsPart, NameFits, LineIn}
+use Rattle.spec_text.proofs.LineParts.{IsPart, NameFits, LineIn}
 use Rattle.spec_text.proofs.Theorems.{tree-lines}
 use Rattle.spec_faults.specs.Faults.{Fault, byPlace, faults}
 use Rattle.spec_faults.proofs.Lists.{All, none, also, all-append, all-map, all-keep}
 use Rattle.spec_faults.proofs.Deduped.{faults-deduped, dedupe-all}
-use Rattle.spec_answers.specs.Answers.{faultAt}
+use Rattle.spec_answers.specs.Answers.{nthFault}
 use Rattle.read_tree.specs.Rows.{Row, rowsT}
 use Rattle.read_tree.proofs.Lengths.{rows-length}
 use Rattle.read_row.proofs.Theorems.{rowAt, tree-worded, rows-again}
@@ -84,7 +84,7 @@ all-by-place : {P : Fault → Type 0} (n m : ℕ) {fs : List Fault} → All P fs
 all-by-place n zero a = none
 all-by-place n (suc m) a = all-append (all-keep _ a) (all-by-place (suc n) m a)
 
-pub fault-of : {P : Fault → Type 0} {fs : List Fault} → All P fs → (j : ℕ) (f : Fault) → faultAt fs j ≡ some f → P f
+pub fault-of : {P : Fault → Type 0} {fs : List Fault} → All P fs → (j : ℕ) (f : Fault) → nthFault fs j ≡ some f → P f
 fault-of none j f e = let z : _≡_ {A = ℕ} 0 1 = cc in absurd (omega arith)
 fault-of {P} (also {a = g} h r) zero f e = let q : g ≡ f = cc in subst P q h
 fault-of (also h r) (suc j) f e = fault-of r j f e

@@ -15,23 +15,23 @@ use Rattle.read_tree.specs.Rows.{rowsT}
 use Rattle.read_tree.specs.Laid.{Holds, Answers}
 use Rattle.read_tree.proofs.Lengths.{rows-length}
 use Rattle.read_tree.specs.declared.Read.the-variants as R
-use Rattle.work_marks.proofs.Fields.{Words, Kept}
-use Rattle.read_row.specs.Again.{lineOfRow}
+use Rattle.work_marks.proofs.Writes.{Words, Kept}
+use Rattle.read_row.specs.RowModel.{lineOfRow}
 use Rattle.read_row.specs.Worded.{WordedSs}
 use Rattle.read_row.proofs.Theorems.{tree-worded, line-again}
-use Rattle.walk_tree.specs.Walk.{walked}
+use Rattle.walk_tree.specs.WalkModel.{walked}
 use Rattle.proof_walk.specs.Table.{Table}
 use Rattle.proof_walk.specs.Slots.{slotsFrom, keys}
-use Rattle.proof_walk.proofs.Held.{table-kept}
+use Rattle.proof_walk.proofs.PartRows.{table-kept}
 use Rattle.proof_walk.proofs.Theorems.{walked-slots, walked-kept}
-use Rattle.report_order.specs.Listing.{entries, stored}
+use Rattle.report_order.specs.OrderModel.{entries, stored}
 use Rattle.proof_order.specs.Shown.{Shows, Pairs, lineIn}
 use Rattle.proof_order.proofs.Theorems.{found, entries-shown}
 use Rattle.find_faults.specs.Found.{Listed, Finds}
 use Rattle.find_faults.specs.declared.Answer.the-variants as A
-use Rattle.find_faults.proofs.Table.{numbers, numbers-rows, globals-named, table-held, no-lambdas}
+use Rattle.find_faults.proofs.RowsForWalk.{numbers, numbers-rows, globals-named, table-held, no-lambdas}
 use Rattle.find_faults.proofs.Fitting.{fault-of, faults-fit}
-use Rattle.find_faults.proofs.Shown.{Reads, pairs-length, pair-at, record-shown}
+use Rattle.find_faults.proofs.RecordsRead.{Reads, pairs-length, pair-at, record-shown}
 
 -- ---- a tree
 module _ (text : Bytes) (work : ℕ) (t : Tree) (e : reading text work ≡ tree t) (w : List ℕ) (h : Holds text (rowsT t) w) (words : Words w) where

@@ -1,8 +1,8 @@
 -- The entries that `find` leaves show the faults. Theorems has what holds of each fault of a tree's text. Table: what the rows that were read
 -- give the walk; Fitting: faults fit their text; Stored: entries are written and read; Shown: they are read as records; Found: the whole.
 pub mod Theorems
-pub mod Table
+pub mod RowsForWalk
 pub mod Fitting
-pub mod Stored
-pub mod Shown
+pub mod EntriesRead
+pub mod RecordsRead
 pub mod Found

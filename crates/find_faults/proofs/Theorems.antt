@@ -7,11 +7,11 @@ use Rattle.spec_text.specs.Bytes.{Bytes, noPart}
 use Rattle.spec_text.specs.Tree.{Tree}
 use Rattle.spec_text.specs.Reading.{tree, reading}
 use Rattle.spec_faults.specs.Faults.{Fault, faults}
-use Rattle.spec_answers.specs.Answers.{faultAt}
+use Rattle.spec_answers.specs.Answers.{nthFault}
 use Rattle.find_faults.specs.Found.{Shown}
 use Rattle.find_faults.proofs.Fitting.{Fits, fault-of, faults-fit}
 
-module _ (text : Bytes) (work : ℕ) (t : Tree) (e : reading text work ≡ tree t) (j : ℕ) (f : Fault) (at : faultAt (faults t) j ≡ some f) where
+module _ (text : Bytes) (work : ℕ) (t : Tree) (e : reading text work ≡ tree t) (j : ℕ) (f : Fault) (at : nthFault (faults t) j ≡ some f) where
   fits : Fits text f
   fits = fault-of (faults-fit text work t e) j f at
 

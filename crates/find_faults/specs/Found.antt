@@ -7,10 +7,10 @@ use lib.ListN.{length}
 use Rattle.spec_text.specs.Bytes.{Bytes, Part}
 use Rattle.spec_text.specs.Reading.{Reading, tree, refusal}
 use Rattle.spec_faults.specs.Faults.{Fault, faults, record7}
-use Rattle.spec_answers.specs.Answers.{faultAt}
-use Rattle.read_names.specs.Chains.{partOf}
-use Rattle.report_order.specs.Listing.{entryAt}
-use Rattle.report_records.specs.Records.{recordOf, numbers}
+use Rattle.spec_answers.specs.Answers.{nthFault}
+use Rattle.read_names.specs.ChainsModel.{partOf}
+use Rattle.report_order.specs.OrderModel.{entryAt}
+use Rattle.report_records.specs.RecordsModel.{recordOf, numbers}
 use Rattle.find_faults.specs.declared.Answer.{Answer}
 use Rattle.find_faults.specs.declared.Answer.the-variants as A
 
@@ -32,12 +32,12 @@ pub record Shows (text : Bytes) (w : List ℕ) (j : ℕ) (f : Fault) : Type 0 wh
   pub classLen : length (f .inClass .bytes) < 4_294_967_296
 
 abbrev pub Listed : Bytes → List Fault → List ℕ → Type 0
-Listed text fs w = (j : ℕ) (f : Fault) → faultAt fs j ≡ some f → Shows text w j f
+Listed text fs w = (j : ℕ) (f : Fault) → nthFault fs j ≡ some f → Shows text w j f
 
 -- ---- the answer
-abbrev pub answerOf : Reading → Answer
-answerOf (tree t) = A.Faults (length (faults t))
-answerOf (refusal k n) = A.Refused k n
+abbrev pub foundAnswer : Reading → Answer
+foundAnswer (tree t) = A.Faults (length (faults t))
+foundAnswer (refusal k n) = A.Refused k n
 
 -- of a text that is refused, the work buffer is free; a tree's text has at most 65,536 bytes, and it has at most 4,096 faults
 abbrev pub Kept : Bytes → Reading → List ℕ → Type 0
@@ -45,5 +45,5 @@ Kept text (tree t) w = Listed text (faults t) w × ((length text < 65_537) × (l
 Kept text (refusal k n) w = Unit
 
 pub record Finds (text : Bytes) (x : Reading) (w : List ℕ) (r : Answer) : Type 0 where
-  pub answer : r ≡ answerOf x
+  pub answer : r ≡ foundAnswer x
   pub kept : Kept text x w

@@ -5,8 +5,8 @@ ghost use mathlib.Core.Path.{_≡_};
 ghost use Prim.Native.Nat.{_<_};
 ghost use lib.ListN.{length};
 ghost use Rattle.spec_text.specs.Reading.{reading};
-ghost use Rattle.report_order.specs.Listing.{entryAt};
-ghost use Rattle.report_records.specs.Records.{recordOf};
+ghost use Rattle.report_order.specs.OrderModel.{entryAt};
+ghost use Rattle.report_records.specs.RecordsModel.{recordOf};
 ghost use Rattle.find_faults.specs.Found.{Finds};
 
 // So many faults, listed in the work buffer; or a refusal, by number and line.

@@ -10,10 +10,10 @@ use lib.Seq.{getD-append-add, getD-append-seam}
 use Rattle.spec_text.specs.Bytes.{Bytes}
 use Rattle.spec_text.specs.Reading.{shortestWork}
 use Rattle.spec_faults.specs.Faults.{Fault, faults, record7, records}
-use Rattle.spec_answers.specs.Answers.{ReportAnswer, report, faultAt, over, reportOut}
+use Rattle.spec_answers.specs.Answers.{ReportAnswer, report, nthFault, over, reportOut}
 use Rattle.spec_answers.specs.Printed.{decimalOf, lineWith, faultLine, faultLines, refusedLine, reportBuffer, printed}
 use Rattle.report_records.specs.declared.Record.{Record}
-use Rattle.print_lines.specs.Lines.{recordIn, recordLine, recordLines}
+use Rattle.print_lines.specs.LinesModel.{recordIn, recordLine, recordLines}
 use Rattle.find_faults.specs.Found.{Shown}
 use Rattle.find_faults.proofs.Theorems.{faults-shown}
 use Rattle.serduzhap.specs.Calls.{reportSays}
@@ -55,7 +55,7 @@ module _ (text : Bytes) where
   line-shown f x c = rw (x, c)
 
   lines-from : (fs : List Fault) (before after : List ℕ) (j : ℕ) → length before ≡ 7 * j
-      → ((i : ℕ) (f : Fault) → faultAt fs i ≡ some f → Shown text (f .name) × Shown text (f .inClass))
+      → ((i : ℕ) (f : Fault) → nthFault fs i ≡ some f → Shown text (f .name) × Shown text (f .inClass))
       → recordLines text (before ++ (records fs ++ after)) j (length fs) ≡ faultLines fs
   lines-from [] p q j e h = refl
   lines-from (f ∷ fs) p q j e h =
@@ -67,7 +67,7 @@ module _ (text : Bytes) where
       ∙ lines-from fs (p ++ record7 f) q (j + 1) (omega (arith, length-append p (record7 f))) (λ i g x. h (suc i) g x))
 
   -- those of all faults, in a report that is written over what was there
-  pub lines-reported : (fs : List Fault) (old : List ℕ) → ((j : ℕ) (f : Fault) → faultAt fs j ≡ some f → Shown text (f .name) × Shown text (f .inClass))
+  pub lines-reported : (fs : List Fault) (old : List ℕ) → ((j : ℕ) (f : Fault) → nthFault fs j ≡ some f → Shown text (f .name) × Shown text (f .inClass))
       → recordLines text (over (records fs) old) 0 (length fs) ≡ faultLines fs
   lines-reported fs old = lines-from fs [] (drop (length (records fs)) old) 0 refl
 

@@ -12,11 +12,11 @@ use lib.ListN.{length, take, length-append}
 use Rattle.spec_text.specs.Bytes.{Bytes, Part, noPart, bytes}
 use Rattle.spec_text.specs.Reading.{shortestWork}
 use Rattle.spec_faults.specs.Faults.{Fault, faults, message, messageOf}
-use Rattle.spec_answers.specs.Answers.{faultAt}
+use Rattle.spec_answers.specs.Answers.{nthFault}
 use Rattle.spec_answers.specs.Printed.{digits, decimalOf, tabbed, lineWith, faultLine, faultLines, refusedLine, printed}
-use Rattle.report_messages.specs.Messages.{Pushes}
+use Rattle.report_messages.specs.MessagesModel.{Pushes}
 use Rattle.report_messages.proofs.Pushed.{pushed-whole}
-use Rattle.report_messages.proofs.Words.{length-said}
+use Rattle.report_messages.proofs.Lengths.{length-said}
 use Rattle.find_faults.proofs.Theorems.{faults-short, faults-classless}
 use Rattle.print_answer.proofs.Cases.{by-answer}
 
@@ -76,7 +76,7 @@ line-short f h =
     rw (length-line (bytes "fault") (decimalOf (f .kind) ∷ decimalOf (f .start) ∷ decimalOf (f .end) ∷ messageOf f ∷ []))
     (omega (arith, digits-short 10 (f .kind), digits-short 10 (f .start), digits-short 10 (f .end)))
 
-lines-short : (fs : List Fault) → ((j : ℕ) (f : Fault) → faultAt fs j ≡ some f → length (messageOf f) ≤ 183) → length (faultLines fs) ≤ 223 * length fs
+lines-short : (fs : List Fault) → ((j : ℕ) (f : Fault) → nthFault fs j ≡ some f → length (messageOf f) ≤ 183) → length (faultLines fs) ≤ 223 * length fs
 lines-short [] h = omega arith
 lines-short (f ∷ fs) h =
     rw (length-append (faultLine f) (faultLines fs)) (omega (arith, line-short f (h 0 f refl), lines-short fs (λ j g e. h (suc j) g e)))

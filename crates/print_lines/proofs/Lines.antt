@@ -6,7 +6,7 @@ use native.Mathlib.Omega.{arith}
 use mathlib.Core.Path.{_≡_, ap, sym, _∙_}
 use mathlib.Core.List.{List, _++_, append-nil, append-assoc}
 use Rattle.spec_text.specs.Bytes.{Bytes}
-use Rattle.print_lines.specs.Lines.{recordIn, recordLine, recordLines}
+use Rattle.print_lines.specs.LinesModel.{recordIn, recordLine, recordLines}
 
 module _ (text : Bytes) (ns : List ℕ) where
   lines-next : (j n : ℕ) → recordLines text ns j (suc n) ≡ recordLines text ns j n ++ recordLine text (recordIn ns (7 * (j + n)))

@@ -6,8 +6,8 @@ ghost use mathlib.Core.List.{[], _∷_};
 ghost use Prim.Native.Nat.{_<_, _≤_, _%_};
 ghost use lib.ListN.{length, getD};
 ghost use Rattle.spec_answers.specs.Printed.{digits, decimalOf, lineWith, refusedLine};
-ghost use Rattle.report_messages.specs.Messages.{Pushes};
-ghost use Rattle.print_lines.specs.Lines.{recordIn, recordLine, recordLines};
+ghost use Rattle.report_messages.specs.MessagesModel.{Pushes};
+ghost use Rattle.print_lines.specs.LinesModel.{recordIn, recordLine, recordLines};
 
 fn narrow(n: usize) -> u8
     ensures { λ r. ⌜ r ≡ n % 256 ⌝ }

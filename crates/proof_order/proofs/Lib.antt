@@ -3,5 +3,5 @@
 pub mod Theorems
 pub mod Reach
 pub mod Right
-pub mod Parts
+pub mod FaultRows
 pub mod Listed

@@ -14,12 +14,12 @@ use Rattle.spec_faults.specs.Faults.{Fault, capture, byPlace}
 use Rattle.spec_faults.proofs.Lists.{All, none, also, and-split}
 use Rattle.spec_faults.proofs.Once.{placed}
 use Rattle.work_rows.specs.Layout.{kindAt}
-use Rattle.work_marks.specs.Marks.{linesBelow, afterRow, slotAt}
+use Rattle.work_marks.specs.MarksModel.{linesBelow, afterRow, slotAt}
 use Rattle.read_tree.specs.Rows.{Row}
 use Rattle.read_tree.specs.Laid.{noRow}
 use Rattle.proof_walk.specs.Slots.{Key, keyOf, slotsFrom, keys}
 use Rattle.report_order.specs.declared.Around.{Around}
-use Rattle.report_order.specs.Listing.{entry, slotIn, captured, captures, called, itself, newLambda, around, placedAt, entriesFrom}
+use Rattle.report_order.specs.OrderModel.{entry, slotIn, captured, captures, called, itself, newLambda, around, placedAt, entriesFrom}
 use Rattle.proof_order.specs.Shown.{Shows, Pairs}
 use Rattle.proof_order.proofs.Reach.{wordIn, endIn, Free}
 use Rattle.proof_order.proofs.Right.{Outer, Way, atRow, atCall, atLambda, inClass, Right}

@@ -15,7 +15,7 @@ use Rattle.read_tree.specs.Laid.{noRow}
 use Rattle.read_tree.proofs.Lengths.{Sized, both, sized-e, sized-es, sized-as, sized-ss, sized-ms}
 use Rattle.read_row.specs.Worded.{NodeWord, lit, un, bin, list, set, treeset, dict, AccessWord, index, get, SimpleWord, break, continue, pass, return, expr, BlockWord, elif, while, WordedE, WordedEs, WordedAs, WordedS, WordedSs, WordedMs}
 use Rattle.proof_walk.specs.Table.{Here}
-use Rattle.proof_walk.proofs.Held.{head-row, here-tail}
+use Rattle.proof_walk.proofs.PartRows.{head-row, here-tail}
 
 -- ---- words: 21 call, 28 lambda, 13 class, and the plain ones
 abbrev pub plain : ℕ → Bool

@@ -9,20 +9,20 @@ use Rattle.spec_text.specs.Bytes.{Bytes}
 use Rattle.spec_text.specs.Tree.{Tree, lenSs, firstLine}
 use Rattle.spec_faults.specs.Faults.{Fault, faults}
 use Rattle.spec_faults.proofs.Lists.{All}
-use Rattle.spec_faults.proofs.Walk.{moduleEnv, startState}
-use Rattle.spec_faults.proofs.Raw.{rawSs}
+use Rattle.spec_faults.proofs.ListingWalk.{moduleEnv, startState}
+use Rattle.spec_faults.proofs.InTextOrder.{rawSs}
 use Rattle.spec_faults.proofs.Deduped.{dedupe, faults-deduped, dedupe-all}
 use Rattle.read_tree.specs.Rows.{globalRow, rowsSs, rowsT}
 use Rattle.read_tree.proofs.Lengths.{Sized, rows-length}
 use Rattle.read_row.specs.Worded.{WordedSs}
 use Rattle.proof_walk.specs.Table.{Table, Here}
 use Rattle.proof_walk.specs.Slots.{slotsFrom, keys}
-use Rattle.proof_walk.proofs.Held.{here-left, here-past}
-use Rattle.report_order.specs.Listing.{entries, nowhere}
+use Rattle.proof_walk.proofs.PartRows.{here-left, here-past}
+use Rattle.report_order.specs.OrderModel.{entries, nowhere}
 use Rattle.proof_order.specs.Shown.{Shows, Pairs}
 use Rattle.proof_order.proofs.Reach.{fits-globals, fits-t, wordIn, endIn, Free, free-past, within}
 use Rattle.proof_order.proofs.Right.{Right}
-use Rattle.proof_order.proofs.Parts.{right-ss}
+use Rattle.proof_order.proofs.FaultRows.{right-ss}
 use Rattle.proof_order.proofs.Listed.{slotted, over-start, listed}
 
 -- the faults in the text's order, once for a lambda and a name

@@ -10,19 +10,19 @@ use Rattle.spec_text.specs.Bytes.{Bytes, Part, mem, same}
 use Rattle.spec_text.proofs.Lists.{same-eq, same-false}
 use Rattle.spec_faults.specs.Position.{inDef}
 use Rattle.spec_faults.specs.Faults.{Fault, capture}
-use Rattle.spec_faults.proofs.Walk.{State, Env}
+use Rattle.spec_faults.proofs.ListingWalk.{State, Env}
 use Rattle.spec_faults.proofs.Deduped.{dedupe, seenAfter, seen-append, dedupe-append}
 use Rattle.read_tree.specs.Rows.{Row}
-use Rattle.work_marks.specs.Marks.{lambdaEnd, blockEnd, slotAt, stampAt, putSlot, raisedBlock}
-use Rattle.work_marks.proofs.Fields.{Words, Kept, kept-refl, kept-trans, slot-same, slot-other, slot-lambda, slot-block, slot-stamp, kept-slot, words-slot, raised-block-same, raised-block-other, raised-block-lambda, raised-block-slot, raised-block-stamp, kept-raised-block, words-raised-block}
-use Rattle.walk_scopes.specs.Scopes.{defined}
+use Rattle.work_marks.specs.MarksModel.{lambdaEnd, blockEnd, slotAt, stampAt, putSlot, raisedBlock}
+use Rattle.work_marks.proofs.Writes.{Words, Kept, kept-refl, kept-trans, slot-same, slot-other, slot-lambda, slot-block, slot-stamp, kept-slot, words-slot, raised-block-same, raised-block-other, raised-block-lambda, raised-block-slot, raised-block-stamp, kept-raised-block, words-raised-block}
+use Rattle.walk_scopes.specs.ScopesModel.{defined}
 use Rattle.walk_scopes.specs.declared.ScopeStack.{ScopeStack}
-use Rattle.walk_scopes.proofs.Laws.{defined-block}
+use Rattle.walk_scopes.proofs.Define.{defined-block}
 use Rattle.proof_walk.specs.Notes.{Note, assignedBy}
 use Rattle.proof_walk.specs.Slots.{keyOf, slotsFrom, keys}
 use Rattle.proof_walk.proofs.State.{Open, Raised, At}
-use Rattle.proof_walk.proofs.Held.{table-kept}
-use Rattle.proof_walk.proofs.Steps.{Places, places-on, slots-same, slots-both, stamped-on}
+use Rattle.proof_walk.proofs.PartRows.{table-kept}
+use Rattle.proof_walk.proofs.InExprs.{Places, places-on, slots-same, slots-both, stamped-on}
 use Rattle.proof_walk.proofs.Exprs.{Walked}
 
 -- ---- marks

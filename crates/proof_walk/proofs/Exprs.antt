@@ -14,32 +14,32 @@ use Rattle.spec_text.specs.Bytes.{Bytes, Part, mem}
 use Rattle.spec_text.specs.Tree.{Line, Expr, Exprs, var, node, access, tuple, call, lambda, enil, econs, lenE, lenEs}
 use Rattle.spec_faults.specs.Position.{Placed, inDef, Use, value, callee}
 use Rattle.spec_faults.specs.Faults.{Fault}
-use Rattle.spec_faults.proofs.Walk.{State, Env}
-use Rattle.spec_faults.proofs.Raw.{rawE, rawEs}
+use Rattle.spec_faults.proofs.ListingWalk.{State, Env}
+use Rattle.spec_faults.proofs.InTextOrder.{rawE, rawEs}
 use Rattle.spec_faults.proofs.Deduped.{dedupe, seenAfter}
 use Rattle.work_rows.specs.Layout.{rowsMost, kindAt, numberAt}
 use Rattle.read_tree.specs.Rows.{Row, row, rowsE, rowsEs}
 use Rattle.read_tree.proofs.Lengths.{sized-e}
-use Rattle.work_marks.specs.Marks.{lambdaEnd, blockEnd, slotAt, stampAt, afterRow}
-use Rattle.work_marks.specs.Loops.{rowsTo}
-use Rattle.work_marks.proofs.Fields.{Kept}
+use Rattle.work_marks.specs.MarksModel.{lambdaEnd, blockEnd, slotAt, stampAt, afterRow}
+use Rattle.work_marks.specs.LoopsModel.{rowsTo}
+use Rattle.work_marks.proofs.Writes.{Kept}
 use Rattle.work_marks.proofs.Loops.{rows-end, rows-more}
-use Rattle.walk_scopes.specs.Scopes.{pushedLambda}
+use Rattle.walk_scopes.specs.ScopesModel.{pushedLambda}
 use Rattle.walk_scopes.specs.declared.ScopeStack.{ScopeStack}
 use Rattle.read_row.specs.Worded.{NodeWord, lit, un, bin, list, set, treeset, dict, AccessWord, index, get, WordedE, WordedEs}
-use Rattle.walk_judge.specs.Judged.{readOf}
-use Rattle.walk_blocks.specs.Blocks.{opened}
-use Rattle.walk_tree.specs.Walk.{exprAt, walkExpr, walkStmt, walkLine, walkExprs}
+use Rattle.walk_judge.specs.JudgeModel.{readOf}
+use Rattle.walk_blocks.specs.BlocksModel.{opened}
+use Rattle.walk_tree.specs.WalkModel.{exprAt, walkExpr, walkStmt, walkLine, walkExprs}
 use Rattle.proof_walk.specs.Table.{ParamWord, lambda as lambdaWord, Table, Here}
 use Rattle.proof_walk.specs.Notes.{Note, assignedBy}
 use Rattle.proof_walk.specs.Slots.{slotsFrom, keys}
 use Rattle.proof_walk.proofs.State.{At, Raised}
-use Rattle.proof_walk.proofs.Held.{head-row, here-tail, here-left, here-past, row-kind, row-after, row-number, row-params, row-small, row-few, after-E}
-use Rattle.proof_walk.proofs.Steps.{none-blamed, Stands, Step, step-both, step-below, step-quiet, stands-on, onward}
-use Rattle.proof_walk.proofs.Reading.{Under, flat, under, Around, CalledAs, asValue, asCallee, readAt, read-step}
+use Rattle.proof_walk.proofs.PartRows.{head-row, here-tail, here-left, here-past, row-kind, row-after, row-number, row-params, row-small, row-few, after-E}
+use Rattle.proof_walk.proofs.InExprs.{none-blamed, Stands, Step, step-both, step-below, step-quiet, stands-on, onward}
+use Rattle.proof_walk.proofs.OneRead.{Under, flat, under, Around, CalledAs, asValue, asCallee, readAt, read-step}
 use Rattle.proof_walk.proofs.Lambdas.{Bound, bound-opened, around-in, stands-in, step-out}
-pub use Rattle.proof_walk.proofs.Steps.{Places}
-pub use Rattle.proof_walk.proofs.Reading.{Still, Flat}
+pub use Rattle.proof_walk.proofs.InExprs.{Places}
+pub use Rattle.proof_walk.proofs.OneRead.{Still, Flat}
 
 -- ---- a part of the rows
 under-part : {s : ScopeStack} {v : Env} {r stop i end : ℕ} {ls : List Placed} → r ≤ i → end ≤ stop → Under s v r stop ls → Under s v i end ls

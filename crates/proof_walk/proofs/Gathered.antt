@@ -13,14 +13,14 @@ use Rattle.spec_text.specs.Tree.{Line, Expr, Exprs, Stmt, Stmts, var, node, acc
 use Rattle.work_rows.specs.Layout.{kindAt, numberAt}
 use Rattle.read_tree.specs.Rows.{Row, row, rowsE, rowsEs, rowsS, rowsSs}
 use Rattle.read_tree.proofs.Lengths.{sized-e, sized-s, sized-ss}
-use Rattle.work_marks.specs.Marks.{afterRow}
+use Rattle.work_marks.specs.MarksModel.{afterRow}
 use Rattle.work_marks.proofs.Loops.{rows-end}
-use Rattle.walk_own_names.specs.Own.{never, noted, rowNoted, nextNoted, allNoted}
-use Rattle.walk_own_names.proofs.Steps.{row-def, row-class, row-for, row-var, row-none, next-past, next-child, next-after, all-more}
+use Rattle.walk_own_names.specs.OwnNamesModel.{never, noted, rowNoted, nextNoted, allNoted}
+use Rattle.walk_own_names.proofs.Ways.{row-def, row-class, row-for, row-var, row-none, next-past, next-child, next-after, all-more}
 use Rattle.read_row.specs.Worded.{Some, NodeWord, lit, un, bin, list, set, treeset, dict, AccessWord, index, get, SimpleWord, break, continue, pass, return, expr, BlockWord, elif, while, WordedE, WordedEs, WordedS, WordedSs}
 use Rattle.proof_walk.specs.Table.{Table, Here}
 use Rattle.proof_walk.specs.Notes.{Note, note, notesT, notesTs, notesS, notesSs}
-use Rattle.proof_walk.proofs.Held.{here-tail, here-left, here-past, row-kind, row-after, row-number, after-E, table-kept}
+use Rattle.proof_walk.proofs.PartRows.{here-tail, here-left, here-past, row-kind, row-after, row-number, after-E, table-kept}
 use Rattle.proof_walk.proofs.Noted.{noteAll, noteAll-two, restamped-all}
 
 -- ---- kinds

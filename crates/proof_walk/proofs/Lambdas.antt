@@ -13,24 +13,24 @@ use Rattle.spec_text.proofs.Lists.{same-eq, same-false}
 use Rattle.spec_faults.specs.Position.{Placed}
 use Rattle.spec_faults.specs.Faults.{Fault}
 use Rattle.spec_faults.proofs.Lists.{mem-append}
-use Rattle.spec_faults.proofs.Walk.{State, Env, withParams}
+use Rattle.spec_faults.proofs.ListingWalk.{State, Env, withParams}
 use Rattle.spec_faults.proofs.Deduped.{seenAfter}
-use Rattle.read_names.specs.Chains.{lookup}
+use Rattle.read_names.specs.ChainsModel.{lookup}
 use Rattle.read_tree.specs.Rows.{Row}
-use Rattle.work_marks.specs.Marks.{lambdaEnd, blockEnd, slotAt, stampAt, raisedBlock, raisedLambda}
-use Rattle.work_marks.proofs.Fields.{Words, Kept, kept-refl, kept-trans, raised-lambda-same, raised-lambda-other, raised-lambda-block, raised-lambda-slot, raised-lambda-stamp, kept-raised-lambda, words-raised-lambda}
-use Rattle.walk_scopes.specs.Scopes.{aDef, owns, pushedLambda, defined}
+use Rattle.work_marks.specs.MarksModel.{lambdaEnd, blockEnd, slotAt, stampAt, raisedBlock, raisedLambda}
+use Rattle.work_marks.proofs.Writes.{Words, Kept, kept-refl, kept-trans, raised-lambda-same, raised-lambda-other, raised-lambda-block, raised-lambda-slot, raised-lambda-stamp, kept-raised-lambda, words-raised-lambda}
+use Rattle.walk_scopes.specs.ScopesModel.{aDef, owns, pushedLambda, defined}
 use Rattle.walk_scopes.specs.declared.ScopeStack.{ScopeStack}
-use Rattle.walk_own_names.specs.Own.{noted, allNoted}
-use Rattle.read_row.specs.Again.{paramsOf}
+use Rattle.walk_own_names.specs.OwnNamesModel.{noted, allNoted}
+use Rattle.read_row.specs.RowModel.{paramsOf}
 use Rattle.read_row.specs.Worded.{Some, Somes}
-use Rattle.walk_blocks.specs.Blocks.{enteredOne, entered, opened}
+use Rattle.walk_blocks.specs.BlocksModel.{enteredOne, entered, opened}
 use Rattle.proof_walk.specs.Table.{Table}
 use Rattle.proof_walk.specs.Notes.{Note}
 use Rattle.proof_walk.proofs.State.{Open, Raised, blamed, placeOf}
-use Rattle.proof_walk.proofs.Held.{table-kept}
-use Rattle.proof_walk.proofs.Steps.{Places, places-on, none-blamed, later-blamed, Stands, Step, open-on, stamped-on, step-below}
-use Rattle.proof_walk.proofs.Reading.{Under, flat, under, Around, readAt}
+use Rattle.proof_walk.proofs.PartRows.{table-kept}
+use Rattle.proof_walk.proofs.InExprs.{Places, places-on, none-blamed, later-blamed, Stands, Step, open-on, stamped-on, step-below}
+use Rattle.proof_walk.proofs.OneRead.{Under, flat, under, Around, readAt}
 
 -- ---- the parameters
 -- names were marked up to the row end

@@ -14,21 +14,21 @@ use Rattle.spec_text.specs.Tree.{Line, Stmts, def, lenS}
 use Rattle.spec_faults.specs.Position.{Home, inModule, inDef, inMethod}
 use Rattle.spec_faults.specs.Faults.{Fault}
 use Rattle.spec_faults.proofs.Lists.{mem-append}
-use Rattle.spec_faults.proofs.Walk.{State, Env, entered}
+use Rattle.spec_faults.proofs.ListingWalk.{State, Env, entered}
 use Rattle.spec_faults.proofs.Deduped.{seenAfter, seen-append}
 use Rattle.read_tree.specs.Rows.{Row, rowsS}
-use Rattle.work_marks.specs.Marks.{lambdaEnd, blockEnd, slotAt, stampAt}
-use Rattle.work_marks.proofs.Fields.{Words, Kept, kept-refl, kept-trans}
-use Rattle.walk_scopes.specs.Scopes.{aDef, pushed}
+use Rattle.work_marks.specs.MarksModel.{lambdaEnd, blockEnd, slotAt, stampAt}
+use Rattle.work_marks.proofs.Writes.{Words, Kept, kept-refl, kept-trans}
+use Rattle.walk_scopes.specs.ScopesModel.{aDef, pushed}
 use Rattle.walk_scopes.specs.declared.ScopeStack.{ScopeStack}
 use Rattle.read_row.specs.Worded.{WordedS}
-use Rattle.walk_blocks.specs.Blocks.{opened, reopened}
+use Rattle.walk_blocks.specs.BlocksModel.{opened, reopened}
 use Rattle.proof_walk.specs.Table.{Table, Here}
 use Rattle.proof_walk.specs.Notes.{Note, notesD, noteOf}
 use Rattle.proof_walk.proofs.State.{homeNumber, Open, Raised, Stamped, Fair, blamed, At}
-use Rattle.proof_walk.proofs.Held.{table-kept}
+use Rattle.proof_walk.proofs.PartRows.{table-kept}
 use Rattle.proof_walk.proofs.Opened.{Bound, OpenedDef, opened-def}
-use Rattle.proof_walk.proofs.Steps.{Places, slots-same}
+use Rattle.proof_walk.proofs.InExprs.{Places, slots-same}
 use Rattle.proof_walk.proofs.Exprs.{Flat}
 use Rattle.proof_walk.proofs.Done.{raised-same, raised-then, raised-far, open-raised, slots-then, Right, Done}
 

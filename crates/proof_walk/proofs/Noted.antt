@@ -14,9 +14,9 @@ use Rattle.spec_text.specs.Bytes.{Bytes, same}
 use Rattle.spec_text.proofs.Lists.{same-eq, same-false}
 use Rattle.work_rows.specs.Layout.{rowsMost}
 use Rattle.spec_faults.proofs.Lists.{All, none, also}
-use Rattle.work_marks.specs.Marks.{lambdaEnd, blockEnd, slotAt, stampAt, putStamp}
-use Rattle.work_marks.proofs.Fields.{Words, Kept, kept-refl, kept-trans, stamp-same, stamp-other, stamp-lambda, stamp-block, stamp-slot, kept-stamp, words-stamp}
-use Rattle.walk_own_names.specs.Own.{noted}
+use Rattle.work_marks.specs.MarksModel.{lambdaEnd, blockEnd, slotAt, stampAt, putStamp}
+use Rattle.work_marks.proofs.Writes.{Words, Kept, kept-refl, kept-trans, stamp-same, stamp-other, stamp-lambda, stamp-block, stamp-slot, kept-stamp, words-stamp}
+use Rattle.walk_own_names.specs.OwnNamesModel.{noted}
 use Rattle.proof_walk.specs.Notes.{Note, noteOf, assignedBy}
 use Rattle.proof_walk.proofs.State.{Stamped, Fair}
 

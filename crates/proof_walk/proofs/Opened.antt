@@ -15,21 +15,21 @@ use Rattle.spec_text.specs.Bytes.{Bytes, Part, same, mem}
 use Rattle.spec_text.specs.Tree.{Line, Stmts, def, lenS, lenSs}
 use Rattle.spec_text.proofs.Lists.{same-eq, same-false}
 use Rattle.work_rows.specs.Layout.{put, rowsMost, headBase, dueBase}
-use Rattle.read_names.specs.Chains.{lookup}
+use Rattle.read_names.specs.ChainsModel.{lookup}
 use Rattle.read_tree.specs.Rows.{Row, row, rowsS}
-use Rattle.work_marks.specs.Marks.{lambdaEnd, blockEnd, slotAt, stampAt, putStamp, raisedBlock}
-use Rattle.work_marks.proofs.Fields.{Words, Kept, kept-refl, kept-trans, raised-block-same, raised-block-other, raised-block-lambda, raised-block-slot, raised-block-stamp, kept-raised-block, words-raised-block, stamp-apart}
+use Rattle.work_marks.specs.MarksModel.{lambdaEnd, blockEnd, slotAt, stampAt, putStamp, raisedBlock}
+use Rattle.work_marks.proofs.Writes.{Words, Kept, kept-refl, kept-trans, raised-block-same, raised-block-other, raised-block-lambda, raised-block-slot, raised-block-stamp, kept-raised-block, words-raised-block, stamp-apart}
 use Rattle.walk_scopes.specs.declared.ScopeStack.{ScopeStack}
-use Rattle.walk_scopes.specs.Scopes.{owns, defined}
-use Rattle.walk_scopes.proofs.Laws.{defined-block}
-use Rattle.walk_own_names.specs.Own.{noted, allNoted}
-use Rattle.read_row.specs.Again.{paramsOf}
+use Rattle.walk_scopes.specs.ScopesModel.{owns, defined}
+use Rattle.walk_scopes.proofs.Define.{defined-block}
+use Rattle.walk_own_names.specs.OwnNamesModel.{noted, allNoted}
+use Rattle.read_row.specs.RowModel.{paramsOf}
 use Rattle.read_row.specs.Worded.{Somes, WordedS}
-use Rattle.walk_blocks.specs.Blocks.{enteredOne, entered, opened}
+use Rattle.walk_blocks.specs.BlocksModel.{enteredOne, entered, opened}
 use Rattle.proof_walk.specs.Table.{ParamWord, def, method, Table, Here}
 use Rattle.proof_walk.specs.Notes.{Note, note, notesSs, notesD}
 use Rattle.proof_walk.proofs.State.{Raised, Stamped, Fair}
-use Rattle.proof_walk.proofs.Held.{here-tail, row-few, row-params, table-kept}
+use Rattle.proof_walk.proofs.PartRows.{here-tail, row-few, row-params, table-kept}
 use Rattle.proof_walk.proofs.Noted.{Stamps, Restamped, restamped-noted, restamped-all, noteAll, noteAll-two, noted-all, fair-other}
 use Rattle.proof_walk.proofs.Gathered.{gathered}
 use Rattle.proof_walk.proofs.Assigned.{low-d}

@@ -11,26 +11,26 @@ use Rattle.spec_text.specs.Bytes.{Bytes, Part, mem, same}
 use Rattle.spec_text.specs.Tree.{Line, Expr, Exprs, Attrs, Stmt, Stmts, Methods, enil, econs, anil, acons, simple, assign, block, choice, for, def, class, snil, scons, mnil, mcons, lenE, lenEs, lenAs, lenS, lenSs, lenMs}
 use Rattle.spec_faults.specs.Position.{Home, inModule, inDef, inMethod, value}
 use Rattle.spec_faults.specs.Faults.{Fault, unless, lacksSelf, selfless}
-use Rattle.spec_faults.proofs.Walk.{State, Env, assigning, naming, entered, afterT, afterS, afterSs, defEnv, methodEnv, inClasses, selfFault}
-use Rattle.spec_faults.proofs.Raw.{rawE, rawEs, rawT, rawS, rawSs, rawMs}
+use Rattle.spec_faults.proofs.ListingWalk.{State, Env, assigning, naming, entered, afterT, afterS, afterSs, defEnv, methodEnv, inClasses, selfFault}
+use Rattle.spec_faults.proofs.InTextOrder.{rawE, rawEs, rawT, rawS, rawSs, rawMs}
 use Rattle.spec_faults.proofs.Deduped.{seenAfter}
 use Rattle.work_rows.specs.Layout.{kindAt}
 use Rattle.read_tree.specs.Rows.{Row, row, rowsE, rowsEs, rowsAs, rowsS, rowsSs, rowsMs}
 use Rattle.read_tree.proofs.Lengths.{sized-e, sized-s, sized-ss, sized-ms}
-use Rattle.work_marks.specs.Marks.{afterRow, stampAt, putSlot}
+use Rattle.work_marks.specs.MarksModel.{afterRow, stampAt, putSlot}
 use Rattle.work_marks.proofs.Loops.{rows-end}
-use Rattle.work_marks.proofs.Fields.{raised-block-stamp}
-use Rattle.walk_scopes.specs.Scopes.{aDef, aMethod, module′, pushed, defined}
+use Rattle.work_marks.proofs.Writes.{raised-block-stamp}
+use Rattle.walk_scopes.specs.ScopesModel.{aDef, aMethod, module′, pushed, defined}
 use Rattle.walk_scopes.specs.declared.ScopeStack.{ScopeStack}
-use Rattle.walk_scopes.proofs.Laws.{defined-block}
-use Rattle.walk_own_names.specs.Own.{never}
+use Rattle.walk_scopes.proofs.Define.{defined-block}
+use Rattle.walk_own_names.specs.OwnNamesModel.{never}
 use Rattle.read_row.specs.Worded.{Somes, WordedE, WordedEs, WordedAs, WordedS, WordedSs, WordedMs}
-use Rattle.walk_blocks.specs.Blocks.{opened, reopened}
-use Rattle.walk_tree.specs.Walk.{nextTarget, targetAt, walkExpr, walkStmt, walkLine}
+use Rattle.walk_blocks.specs.BlocksModel.{opened, reopened}
+use Rattle.walk_tree.specs.WalkModel.{nextTarget, targetAt, walkExpr, walkStmt, walkLine}
 use Rattle.proof_walk.specs.Table.{ParamWord, method, Table, Here}
 use Rattle.proof_walk.specs.Notes.{Note, note, notesS, notesSs, notesD, assignedBy}
 use Rattle.proof_walk.proofs.State.{homeNumber}
-use Rattle.proof_walk.proofs.Held.{here-tail, here-left, here-past, row-few, row-kind, row-after, row-number, row-small, row-params, after-E, after-S}
+use Rattle.proof_walk.proofs.PartRows.{here-tail, here-left, here-past, row-few, row-kind, row-after, row-number, row-small, row-params, after-E, after-S}
 use Rattle.proof_walk.proofs.Noted.{fair-new}
 use Rattle.proof_walk.proofs.Assigned.{Assigns, now-ss, stmts-first, stmts-rest, assign-still, assign-target, block-still, block-body, choice-still, choice-body, choice-elifs, choice-else, for-still, for-body, none-still, cut, def-body, locals}
 use Rattle.proof_walk.proofs.Opened.{OpenedDef, opened-def, opened-method}
@@ -38,7 +38,7 @@ use Rattle.proof_walk.proofs.Exprs.{Still, word-E, expr-walked}
 use Rattle.proof_walk.proofs.Done.{Right, Done, done-then, done-skip, done-fault, done-bind, done-walked, done-to, Looped, looped-one, looped-then, looped-to, looped-end}
 use Rattle.proof_walk.proofs.Targets.{target}
 use Rattle.proof_walk.proofs.Nested.{reopened-at, Entry, entry-def, entry-method, Block, Ready, ready-on, enter, nested}
-use Rattle.proof_walk.proofs.Lines.{some-stmt, stmt-kind, plain, plain-simple, plain-block, kids, at-plain, at-assign, at-for, at-def, at-class, at-method, at-attr, line-stmt, line-expr}
+use Rattle.proof_walk.proofs.ByKind.{some-stmt, stmt-kind, plain, plain-simple, plain-block, kids, at-plain, at-assign, at-for, at-def, at-class, at-method, at-attr, line-stmt, line-expr}
 
 -- a name that a def or a class has is not assigned by that
 named-still : {ns : List Note} {a : List Part} {y : Part} {i j : ℕ} → j < never → Assigns ns a (note never y ∷ []) i j → (x : Bytes) (r : ℕ) → i ≤ r → r ≤ j → mem x a ≡ assignedBy ns x r

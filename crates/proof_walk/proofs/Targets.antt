@@ -12,23 +12,23 @@ use Rattle.spec_text.specs.Bytes.{Bytes, Part, mem}
 use Rattle.spec_text.specs.Tree.{Line, Expr, Exprs, var, node, access, tuple, call, lambda, enil, econs, lenE, lenEs}
 use Rattle.spec_faults.specs.Position.{inDef}
 use Rattle.spec_faults.specs.Faults.{Fault, refusedAt}
-use Rattle.spec_faults.proofs.Walk.{State, Env, afterT, afterTs}
-use Rattle.spec_faults.proofs.Raw.{rawEs, rawT, rawTs}
+use Rattle.spec_faults.proofs.ListingWalk.{State, Env, afterT, afterTs}
+use Rattle.spec_faults.proofs.InTextOrder.{rawEs, rawT, rawTs}
 use Rattle.work_rows.specs.Layout.{kindAt, numberAt}
 use Rattle.read_tree.specs.Rows.{Row, row, rowsE, rowsEs}
 use Rattle.read_tree.proofs.Lengths.{sized-e}
-use Rattle.work_marks.specs.Marks.{afterRow, putSlot}
-use Rattle.work_marks.specs.Loops.{rowsTo}
+use Rattle.work_marks.specs.MarksModel.{afterRow, putSlot}
+use Rattle.work_marks.specs.LoopsModel.{rowsTo}
 use Rattle.work_marks.proofs.Loops.{rows-more}
-use Rattle.walk_scopes.specs.Scopes.{defined}
+use Rattle.walk_scopes.specs.ScopesModel.{defined}
 use Rattle.walk_scopes.specs.declared.ScopeStack.{ScopeStack}
-use Rattle.walk_own_names.specs.Own.{never}
+use Rattle.walk_own_names.specs.OwnNamesModel.{never}
 use Rattle.read_row.specs.Worded.{NodeWord, lit, un, bin, list, set, treeset, dict, AccessWord, index, get, WordedE, WordedEs}
-use Rattle.walk_tree.specs.Walk.{nextTarget, targetAt, walkExpr}
+use Rattle.walk_tree.specs.WalkModel.{nextTarget, targetAt, walkExpr}
 use Rattle.proof_walk.specs.Table.{Here}
 use Rattle.proof_walk.specs.Notes.{Note, notesT, notesTs, assignedBy}
 use Rattle.proof_walk.proofs.State.{At}
-use Rattle.proof_walk.proofs.Held.{here-tail, here-left, here-past, row-kind, row-after, row-number, row-small}
+use Rattle.proof_walk.proofs.PartRows.{here-tail, here-left, here-past, row-kind, row-after, row-number, row-small}
 use Rattle.proof_walk.proofs.Assigned.{Assigns, range-ts, still, end-t, targets-first, targets-rest, tuple-parts, none-still}
 use Rattle.proof_walk.proofs.Exprs.{Places, Flat, exprs-walked}
 use Rattle.proof_walk.proofs.Done.{Right, Done, done-then, done-skip, done-fault, done-bind, done-walked, done-to, Looped, looped-one, looped-then, looped-to}

@@ -7,18 +7,18 @@ use mathlib.Core.List.{List, []}
 use lib.ListN.{length}
 use Rattle.spec_text.specs.Bytes.{Bytes}
 use Rattle.spec_text.specs.Tree.{Tree, lenSs, firstLine}
-use Rattle.spec_faults.proofs.Walk.{moduleEnv, startState}
-use Rattle.spec_faults.proofs.Raw.{rawSs}
+use Rattle.spec_faults.proofs.ListingWalk.{moduleEnv, startState}
+use Rattle.spec_faults.proofs.InTextOrder.{rawSs}
 use Rattle.spec_faults.proofs.Deduped.{dedupe}
 use Rattle.read_tree.specs.Rows.{rowsT}
 use Rattle.read_tree.proofs.Lengths.{rows-length}
-use Rattle.work_marks.specs.Marks.{lambdaEnd, slotAt}
-use Rattle.work_marks.proofs.Fields.{Words, Kept, kept-trans}
+use Rattle.work_marks.specs.MarksModel.{lambdaEnd, slotAt}
+use Rattle.work_marks.proofs.Writes.{Words, Kept, kept-trans}
 use Rattle.read_row.specs.Worded.{Somes, WordedSs}
-use Rattle.walk_tree.specs.Walk.{walked}
+use Rattle.walk_tree.specs.WalkModel.{walked}
 use Rattle.proof_walk.specs.Table.{Table}
 use Rattle.proof_walk.specs.Slots.{slotsFrom, keys}
-use Rattle.proof_walk.proofs.Whole.{statements, started-kept, started-clean}
+use Rattle.proof_walk.proofs.Start.{statements, started-kept, started-clean}
 
 -- numbers of names are rows; no row says that a lambda is open
 module _ (text : Bytes) (t : Tree) (num : Bytes → ℕ) (w : List ℕ) (table : Table text (rowsT t) num w) (words : Words w) (worded : WordedSs (t .body)) (named : Somes (t .globals))

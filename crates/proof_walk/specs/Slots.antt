@@ -2,7 +2,7 @@
 use Prim.Native.Nat.{ℕ, zero, suc}
 use mathlib.Core.List.{List, [], _∷_, _++_, map}
 use Rattle.spec_faults.specs.Faults.{Fault}
-use Rattle.work_marks.specs.Marks.{slotAt}
+use Rattle.work_marks.specs.MarksModel.{slotAt}
 
 pub record Key : Type 0 where
   pub line : ℕ

@@ -1,2 +1,2 @@
 -- Fields of a line, and the hash of a name.
-pub mod Fields
+pub mod FieldsModel

@@ -4,7 +4,7 @@ ghost use mathlib.Core.Path.{_≡_};
 ghost use Prim.Native.Nat.{_+_, _<_};
 ghost use lib.ListN.{length, getD};
 ghost use Rattle.spec_text.specs.Bytes.{same, isDigit, isNameByte};
-ghost use Rattle.read_fields.specs.Fields.{isEnd, fieldAt, refused, startAt, fieldFrom, numberFrom, hashOf, nameFrom, mix, endFrom, endsAt, pastEnd, noNumber, noName};
+ghost use Rattle.read_fields.specs.FieldsModel.{isEnd, fieldAt, refused, startAt, fieldFrom, numberFrom, hashOf, nameFrom, mix, endFrom, endsAt, pastEnd, noNumber, noName};
 
 // The most bytes of a name.
 const LONGEST_NAME: usize = 63;

@@ -8,19 +8,19 @@ use lib.ListN.{length}
 use borrow.Author.Tests.{ltb-true}
 use Rattle.spec_text.specs.Bytes.{Bytes}
 use Rattle.spec_text.specs.Lines.{Word, words, Cut, Parsed, parsed, wellFormed}
-use Rattle.read_fields.specs.Fields.{isEnd, fieldAt, endByte, startAt, past, endFrom}
+use Rattle.read_fields.specs.FieldsModel.{isEnd, fieldAt, endByte, startAt, past, endFrom}
 use Rattle.read_fields.specs.declared.Cursor.{Cursor}
 use Rattle.read_fields.specs.declared.Number.{Number}
 use Rattle.read_fields.specs.declared.Name.{Name}
-use Rattle.read_line.specs.Line.{noLine, numbersOf, cutLine, lineAt}
-use Rattle.read_line.specs.Steps.{place, isWord, noKind, kindFrom, shapeOf, spanFrom, countFrom, ownFrom, paramsFrom, shaped, bySteps}
+use Rattle.read_line.specs.LineModel.{noLine, numbersOf, cutLine, lineAt}
+use Rattle.read_line.specs.StepsModel.{place, isWord, noKind, kindFrom, shapeOf, spanFrom, countFrom, ownFrom, paramsFrom, shaped, bySteps}
 use Rattle.read_line.specs.declared.Kind.{Kind}
 use Rattle.read_line.specs.declared.Shape.{Shape}
 use Rattle.read_line.specs.declared.Params.{Params}
 use Rattle.read_line.specs.declared.Line.{Line}
 use Rattle.read_line.proofs.Cut.{toCome, fieldOf, before, stop, unroll}
 use Rattle.read_line.proofs.Shaped.{lineIn, shaped-cut}
-use Rattle.read_line.proofs.Words.{wordAt, rowLine, line-placed, few-counts}
+use Rattle.read_line.proofs.WordPlaces.{wordAt, rowLine, line-placed, few-counts}
 
 -- the line of what the table makes of its fields
 abbrev ofParsed : Option Parsed → Bool → ℕ → Line

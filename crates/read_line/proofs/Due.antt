@@ -9,16 +9,16 @@ use lib.Dec.{eqb, ltb, eqb·zero-suc}
 use lib.ListN.{length, getD}
 use Rattle.spec_text.specs.Bytes.{Bytes, Part, noPart, all, isName, isNumber, valueOf}
 use Rattle.spec_text.specs.Lines.{Cut}
-use Rattle.read_fields.specs.Fields.{isEnd, endByte, refused, past, takes, numberFrom, hashOf, hashFrom, endFrom}
+use Rattle.read_fields.specs.FieldsModel.{isEnd, endByte, refused, past, takes, numberFrom, hashOf, hashFrom, endFrom}
 use Rattle.read_fields.specs.declared.Cursor.{Cursor}
 use Rattle.read_fields.specs.declared.Number.{Number}
 use Rattle.read_fields.specs.declared.Name.{Name}
-use Rattle.read_line.specs.Line.{noLine}
-use Rattle.read_line.specs.Steps.{ownFrom, paramsFrom, allNames}
+use Rattle.read_line.specs.LineModel.{noLine}
+use Rattle.read_line.specs.StepsModel.{ownFrom, paramsFrom, allNames}
 use Rattle.read_line.specs.declared.Params.{Params}
 use Rattle.read_line.specs.declared.Line.{Line}
 use Rattle.read_line.proofs.Cut.{toCome, fieldOf, before, stop, unroll, where-ok}
-use Rattle.read_line.proofs.Rows.{Row, rowFrom}
+use Rattle.read_line.proofs.FieldRows.{Row, rowFrom}
 
 -- ---- up to three numbers
 pub record Numbers : Type 0 where

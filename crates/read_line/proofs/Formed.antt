@@ -13,10 +13,10 @@ use borrow.Author.Tests.{leb-true, le-leb, eqb-true, eq-eqb}
 use Rattle.spec_text.specs.Bytes.{Bytes, Part, noPart, all, isName, isNumber, valueOf, largestSpan, largestCount}
 use Rattle.spec_text.specs.Lines.{Word, wellFormed, parsed, sortOf}
 use Rattle.spec_text.proofs.Lists.{and-split}
-use Rattle.read_fields.specs.Fields.{hashOf}
-use Rattle.read_line.specs.Line.{numbersOf}
+use Rattle.read_fields.specs.FieldsModel.{hashOf}
+use Rattle.read_line.specs.LineModel.{numbersOf}
 use Rattle.read_line.specs.declared.Line.{Line}
-use Rattle.read_line.proofs.Rows.{begins}
+use Rattle.read_line.proofs.FieldRows.{begins}
 use Rattle.read_line.proofs.Due.{numberAt, left}
 
 -- ---- the rows

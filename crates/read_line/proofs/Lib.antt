@@ -1,10 +1,10 @@
 -- What the line's proofs share. That a cursor's steps find the line: Cut to BySteps. For the code: Keys, Letters, Tail.
 pub mod Cut
-pub mod Rows
+pub mod FieldRows
 pub mod Due
 pub mod Formed
 pub mod Shaped
-pub mod Words
+pub mod WordPlaces
 pub mod BySteps
 pub mod Keys
 pub mod Letters

@@ -10,11 +10,11 @@ use Rattle.spec_text.specs.Bytes.{Bytes, isName, largestSpan, largestCount}
 use Rattle.spec_text.specs.Lines.{Word, Cut, wellFormed, parsed, sortOf}
 use Rattle.read_fields.specs.declared.Cursor.{Cursor}
 use Rattle.read_fields.specs.declared.Name.{Name}
-use Rattle.read_line.specs.Line.{noLine, numbersOf as lineOf}
-use Rattle.read_line.specs.Steps.{spanFrom, countFrom, ownFrom, shaped, ofWord}
+use Rattle.read_line.specs.LineModel.{noLine, numbersOf as lineOf}
+use Rattle.read_line.specs.StepsModel.{spanFrom, countFrom, ownFrom, shaped, ofWord}
 use Rattle.read_line.specs.declared.Line.{Line}
 use Rattle.read_line.proofs.Cut.{toCome}
-use Rattle.read_line.proofs.Rows.{Row, rowFrom, begins, without, Taken, took, lost, row-refused, row-taken}
+use Rattle.read_line.proofs.FieldRows.{Row, rowFrom, begins, without, Taken, took, lost, row-refused, row-taken}
 use Rattle.read_line.proofs.Due.{Numbers, numbersIf, numbersOf, numbers-row, nameOf, name-row, endLine, end-refused, end-taken}
 use Rattle.read_line.proofs.Formed.{spans, names, isSpan, isCount, byRows, formed-rows, ofParts, parsed-rows}
 

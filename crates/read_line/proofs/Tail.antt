@@ -9,14 +9,14 @@ use native.Mathlib.Omega.{arith}
 use lib.ListN.{length, drop}
 use Rattle.spec_text.specs.Bytes.{Bytes, Part, all, isName}
 use Rattle.spec_text.specs.Lines.{Cut, cut}
-use Rattle.read_fields.specs.Fields.{isEnd, fieldAt, endByte, refused, endOf, past, takes, noName, nameFrom, hashOf}
+use Rattle.read_fields.specs.FieldsModel.{isEnd, fieldAt, endByte, refused, endOf, past, takes, noName, nameFrom, hashOf}
 use Rattle.read_fields.specs.declared.Cursor.{Cursor}
 use Rattle.read_fields.specs.declared.Name.{Name}
 use Rattle.read_fields.proofs.Fields.{inside}
-use Rattle.read_line.specs.Steps.{paramsFrom, allNames}
+use Rattle.read_line.specs.StepsModel.{paramsFrom, allNames}
 use Rattle.read_line.specs.declared.Params.{Params}
 use Rattle.read_line.proofs.Cut.{toCome, fieldOf, before, stop, unroll, where-ok}
-use Rattle.read_line.proofs.Rows.{takes-facts}
+use Rattle.read_line.proofs.FieldRows.{takes-facts}
 use Rattle.read_line.proofs.Due.{isNamePart, names-left}
 
 -- so many more parameters; a refused line has none

@@ -1,3 +1,3 @@
 -- One line: what it is as numbers, and the steps that a cursor takes through it.
-pub mod Line
-pub mod Steps
+pub mod LineModel
+pub mod StepsModel

@@ -5,8 +5,8 @@ use read_fields::Number;
 use spec_text::line_kind;
 use spec_text::sort;
 ghost use mathlib.Core.Path.{_≡_};
-ghost use Rattle.read_line.specs.Line.{lineAt, noLine};
-ghost use Rattle.read_line.specs.Steps.{noKind, kindFrom, orWord, shapeOf, spanFrom, countFrom, ownFrom, paramsFrom};
+ghost use Rattle.read_line.specs.LineModel.{lineAt, noLine};
+ghost use Rattle.read_line.specs.StepsModel.{noKind, kindFrom, orWord, shapeOf, spanFrom, countFrom, ownFrom, paramsFrom};
 
 // The largest s or e of a span, and the largest count.
 const LARGEST_SPAN: u32 = 4294967295;
@@ -211,7 +211,7 @@ fn count(c: Cursor, text: &[u8], due: bool) -> Number
 }
 
 // The line's own name.
-fn own(c: Cursor, text: &[u8], due: bool) -> Name
+fn name_if_due(c: Cursor, text: &[u8], due: bool) -> Name
     ensures { λ r. ⌜ r ≡ ownFrom due (now (text .entry)) c ⌝ }
 {
     if due {
@@ -279,7 +279,7 @@ pub fn line_at(text: &[u8], at: usize) -> Line
     let s = shape_of(k.kind);
     let from = span(k.next, text, s.spanned);
     let to = span(from.next, text, s.spanned);
-    let own = own(to.next, text, s.named);
+    let own = name_if_due(to.next, text, s.named);
     let a = count(own.next, text, 0 < s.counts);
     let b = count(a.next, text, 1 < s.counts);
     let c = count(b.next, text, 2 < s.counts);

@@ -13,10 +13,10 @@ use lib.Dec.{leb, ltb}
 use lib.ListN.{length, getD, length-set}
 use lib.Seq.{getD-set-same, getD-set-other}
 use Rattle.spec_text.specs.Bytes.{Bytes}
-use Rattle.read_fields.specs.Fields.{fieldAt, hashOf}
+use Rattle.read_fields.specs.FieldsModel.{fieldAt, hashOf}
 use Rattle.work_rows.specs.Layout.{put, rowsMost, nameBase, headBase, dueBase, nameOf, offsetAt, sameAt}
 use Rattle.read_names.specs.Names.{earliest}
-use Rattle.read_names.specs.Chains.{partOf, headAt, found, placed, entered, added, cleared, New, Link, Names}
+use Rattle.read_names.specs.ChainsModel.{partOf, headAt, found, placed, nameEntered, added, cleared, New, Link, Names}
 use Rattle.read_names.proofs.Earliest.{more, First, Absent, sought, earliest-first, earliest-absent, first-more, first-new, earliest-more, more-old, more-new, more-length}
 use Rattle.read_names.proofs.Writes.{eq-or-ne, marked, headed, entered-old, entered-new, cleared-length, cleared-head}
 use Rattle.read_names.proofs.Links.{hash-small, found-earliest, first-is-new, new-less, link-more, link-past, link-on}
@@ -218,11 +218,11 @@ module _ {text : Bytes} {names : List Bytes} {w : List ℕ} (s : Names text name
         row = ap (found text w (hashOf x)) p ∙ found-earliest s x some
 
         wrote : (r : ℕ) → earliest names x ≡ r
-            → entered w (length names) at (hashOf x) (found text w (hashOf x) (partOf text at len)) ≡ entered w (length names) at (hashOf x) r
-        wrote r q = ap (entered w (length names) at (hashOf x)) (row ∙ q)
+            → nameEntered w (length names) at (hashOf x) (found text w (hashOf x) (partOf text at len)) ≡ nameEntered w (length names) at (hashOf x) r
+        wrote r q = ap (nameEntered w (length names) at (hashOf x)) (row ∙ q)
 
         go : ((j : ℕ) × First names x j) ⊎ Absent names x
-            → Names text (more names x) (entered w (length names) at (hashOf x) (found text w (hashOf x) (partOf text at len)))
+            → Names text (more names x) (nameEntered w (length names) at (hashOf x) (found text w (hashOf x) (partOf text at len)))
         go (inl (j, f)) =
             subst (Names text (more names x)) (sym (wrote j (earliest-first f) ∙ entered-old w (length names) at (hashOf x) j (omega (arith, f .low)))) (names-old j f)
         go (inr a) =

@@ -4,4 +4,4 @@ pub mod Earliest
 pub mod Writes
 pub mod Links
 pub mod Adds
-pub mod Steps
+pub mod Turns

@@ -1,5 +1,5 @@
--- Links of a chain: what a link says stays with one name more, and a walk along the links of a name's hash ends at the earliest row
--- that has the name. A walk has passed all new rows from m on that have the name, and a link skips only rows of other hashes.
+-- Links of a chain: what a link says stays with one name more, and a follow along the links of a name's hash ends at the earliest row
+-- that has the name. A follow has passed all new rows from m on that have the name, and a link skips only rows of other hashes.
 use Prim.Native.Nat.{ℕ, zero, suc, _+_, _-_, _≤_, _<_}
 use native.Mathlib.Nat.{eq-or-lt-of-le}
 use native.Mathlib.Omega.{arith}
@@ -12,10 +12,10 @@ use lib.Dec.{leb}
 use lib.ListN.{length, getD}
 use borrow.Author.Tests.{leb-true, leb-false}
 use Rattle.spec_text.specs.Bytes.{Bytes, same}
-use Rattle.read_fields.specs.Fields.{fieldAt, mix, hashFrom, hashOf}
+use Rattle.read_fields.specs.FieldsModel.{fieldAt, mix, hashFrom, hashOf}
 use Rattle.work_rows.specs.Layout.{rowsMost, offsetAt}
 use Rattle.read_names.specs.Names.{earliest}
-use Rattle.read_names.specs.Chains.{headAt, linkAt, walk, found, New, Link, Names}
+use Rattle.read_names.specs.ChainsModel.{headAt, linkAt, follow, found, New, Link, Names}
 use Rattle.read_names.proofs.Earliest.{more, First, Absent, sought, earliest-first, earliest-absent, more-old}
 use Rattle.spec_text.proofs.Lists.{same-eq, same-false}
 
@@ -77,7 +77,7 @@ link-on {names} h n f e = record {
 link-top : {names : List Bytes} (h n j : ℕ) → Link names h n (suc j) → New names j × (hashOf (getD names j []) ≡ h)
 link-top {names} h n j l = subst (λ z. New names z × (hashOf (getD names z []) ≡ h)) (omega arith) (l .top (omega arith))
 
--- ---- the walk: no new row from m on has the name
+-- ---- the follow: no new row from m on has the name
 abbrev Past : List Bytes → Bytes → ℕ → Type 0
 Past names x m = (k : ℕ) → m ≤ k → k < length names → New names k → getD names k [] ≡ x → ⊥
 
@@ -91,7 +91,7 @@ module _ {text : Bytes} {names : List Bytes} {w : List ℕ} (s : Names text name
           let n = first-is-new some f in
           absurd (⊎-elim (λ a. past j a (f .low) n (f .is)) (λ a. l .skip j a (omega arith) n (ap hashOf (f .is))) (le-or-lt m j))
 
-  -- at row j: it has the name, or the walk goes on with the rows before it
+  -- at row j: it has the name, or the follow goes on with the rows before it
   walk-step : (m j rest : ℕ) → m ≤ length names → Link names (hashOf x) m (suc j) → Past names x m → (Past names x j → rest ≡ earliest names x)
       → (elim (same (fieldAt text (offsetAt w j)) x) [ true ↦ j | false ↦ rest ]) ≡ earliest names x
   walk-step m j rest b l past more = go (same (fieldAt text (offsetAt w j)) x) refl
@@ -111,8 +111,8 @@ module _ {text : Bytes} {names : List Bytes} {w : List ℕ} (s : Names text name
           (λ i. same-false _ x e (name ∙ (ap (λ r. getD names r []) i ∙ z)))
           (λ i. l .skip k o i n (ap hashOf z)) (eq-or-lt-of-le a)) (le-or-lt m k))
 
-  pub walk-earliest : (fuel m c : ℕ) → c ≤ fuel → m ≤ length names → Link names (hashOf x) m c → Past names x m → walk fuel text w c x ≡ earliest names x
-  unfolding walk
+  pub walk-earliest : (fuel m c : ℕ) → c ≤ fuel → m ≤ length names → Link names (hashOf x) m c → Past names x m → follow fuel text w c x ≡ earliest names x
+  unfolding follow
   walk-earliest zero m zero a b l past = walk-end m l past
   walk-earliest zero m (suc j) a b l past = absurd (omega arith)
   walk-earliest (suc fuel) m zero a b l past = walk-end m l past

@@ -11,7 +11,7 @@ use lib.Seq.{getD-set-same, getD-set-other}
 use borrow.Author.Tests.{eqb-true, eqb-false, lt-ltb, le-ltb}
 use Rattle.spec_text.specs.Bytes.{Bytes}
 use Rattle.work_rows.specs.Layout.{put, rowsMost, nameBase, headBase, dueBase, nameOf, offsetAt}
-use Rattle.read_names.specs.Chains.{headAt, found, placed, entered, added, clearedFrom, cleared, partOf}
+use Rattle.read_names.specs.ChainsModel.{headAt, found, placed, nameEntered, added, clearedFrom, cleared, partOf}
 
 pub eq-or-ne : (a b : ℕ) → (a ≡ b) ⊎ (a ≡ b → ⊥)
 eq-or-ne a b = go (eqb a b) refl
@@ -27,15 +27,15 @@ marked w i at mark = put w (nameBase + i) (nameOf at mark)
 abbrev pub headed : List ℕ → ℕ → ℕ → List ℕ
 headed w i h = put w (headBase + h % 4_096) (i + 1)
 
-pub entered-old : (w : List ℕ) (i at h r : ℕ) → r < rowsMost → entered w i at h r ≡ marked w i at r
-entered-old w i at h r l = rw (lt-ltb r rowsMost l, entered)
+pub entered-old : (w : List ℕ) (i at h r : ℕ) → r < rowsMost → nameEntered w i at h r ≡ marked w i at r
+entered-old w i at h r l = rw (lt-ltb r rowsMost l, nameEntered)
 
-pub entered-new : (w : List ℕ) (i at h r : ℕ) → rowsMost ≤ r → entered w i at h r ≡ headed (marked w i at (rowsMost + headAt w h)) i h
-entered-new w i at h r l = rw (le-ltb r rowsMost l, entered)
+pub entered-new : (w : List ℕ) (i at h r : ℕ) → rowsMost ≤ r → nameEntered w i at h r ≡ headed (marked w i at (rowsMost + headAt w h)) i h
+entered-new w i at h r l = rw (le-ltb r rowsMost l, nameEntered)
 
 -- what holds once the second number is written, and is kept by a head
 entered-has : (P : List ℕ → Type 0) (w : List ℕ) (i at h r : ℕ) → ((mark : ℕ) → P (marked w i at mark)) → ((z : List ℕ) → P z → P (headed z i h))
-    → P (entered w i at h r)
+    → P (nameEntered w i at h r)
 entered-has P w i at h r first then = go (ltb r rowsMost)
   where
     go : (t : Bool) → P (elim t [ true ↦ marked w i at r | false ↦ headed (marked w i at (rowsMost + headAt w h)) i h ])

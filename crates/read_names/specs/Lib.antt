@@ -1,3 +1,3 @@
 -- A number for each name.
 pub mod Names
-pub mod Chains
+pub mod ChainsModel

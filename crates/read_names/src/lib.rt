@@ -11,7 +11,7 @@ ghost use lib.ListN.{length};
 ghost use mathlib.Core.List.{List, []};
 ghost use Rattle.spec_text.specs.Bytes.{Bytes};
 ghost use Rattle.read_names.specs.Names.{earliest};
-ghost use Rattle.read_names.specs.Chains.{Names, partOf, headAt, linkAt, found, lookup, placed, entered, added, cleared};
+ghost use Rattle.read_names.specs.ChainsModel.{Names, partOf, headAt, linkAt, found, lookup, placed, nameEntered, added, cleared};
 
 // How many hashes there are.
 const HASHES: usize = 4096;
@@ -89,7 +89,7 @@ pub fn place(work: &mut [u32], i: usize, at: usize)
 // Writes row i's name, where r is the earliest row that has it, or 4,096.
 fn enter(work: &mut [u32], i: usize, at: usize, hash: usize, r: usize)
     requires { ⌜ (i < 4294967296) × (at < 4294967296) ⌝ }
-    ensures { λ _. ⌜ now (work .exit) ≡ entered (now (work .entry)) i at hash r ⌝ }
+    ensures { λ _. ⌜ now (work .exit) ≡ nameEntered (now (work .entry)) i at hash r ⌝ }
 {
     if r < ROWS_MOST {
         work_rows::put(work, NAME_BASE + i, at + OFFSETS * r);

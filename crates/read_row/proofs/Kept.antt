@@ -9,14 +9,14 @@ use lib.ListN.{length, getD, length-map, List·getD-map}
 use lib.Seq.{getD-take}
 use Rattle.spec_text.specs.Bytes.{Bytes}
 use Rattle.spec_text.specs.Tree.{Line}
-use Rattle.read_line.specs.Line.{lineAt, cutLine, numbersOf}
+use Rattle.read_line.specs.LineModel.{lineAt, cutLine, numbersOf}
 use Rattle.read_line.specs.declared.Line.{Line as Numbers}
 use Rattle.work_rows.specs.Layout.{kindAt, offsetAt, numberAt}
 use Rattle.read_names.specs.Names.{earliest}
 use Rattle.read_tree.specs.Rows.{Row}
 use Rattle.read_tree.specs.Laid.{Holds, numberOf, nameIn, startOf, noRow}
 use Rattle.read_tree.proofs.ParsedFacts.{ParsedFacts, parsed-facts}
-use Rattle.read_row.specs.Again.{lineStart, paramsOf, lineOfRow}
+use Rattle.read_row.specs.RowModel.{lineStart, paramsOf, lineOfRow}
 use Rattle.read_row.specs.Worded.{Some}
 use Rattle.read_row.proofs.OnLine.{On, cut-on}
 use Rattle.read_row.proofs.Runs.{cutAt, Stands, Again}

@@ -9,7 +9,7 @@ use lib.ListN.{drop}
 use Rattle.spec_text.specs.Bytes.{Bytes, Part}
 use Rattle.spec_text.specs.Lines.{cut}
 use Rattle.spec_text.proofs.Lists.{All, all-nil, all-cons, next-of, at-next}
-use Rattle.read_row.specs.Again.{lineStart}
+use Rattle.read_row.specs.RowModel.{lineStart}
 
 -- on the line that starts at s
 abbrev pub On : Bytes → ℕ → Part → Type 0

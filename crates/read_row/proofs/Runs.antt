@@ -11,12 +11,12 @@ use lib.ListN.{length, getD, drop, length-append}
 use Rattle.spec_text.specs.Bytes.{Bytes}
 use Rattle.spec_text.specs.Tree.{Line}
 use Rattle.spec_text.specs.Lines.{Cut, cut, Parsed, parse}
-use Rattle.spec_text.proofs.Parts.{ParsedFits}
+use Rattle.spec_text.proofs.LineParts.{ParsedFits}
 use Rattle.read_tree.specs.Rows.{Row}
 use Rattle.read_tree.specs.Laid.{startOf, noRow}
 use Rattle.read_tree.proofs.CutText.{cut-skips}
 use Rattle.read_tree.proofs.Starts.{skip-next}
-use Rattle.read_row.specs.Again.{lineStart}
+use Rattle.read_row.specs.RowModel.{lineStart}
 
 -- the bytes up to the first LF, from an offset on
 abbrev pub cutAt : Bytes → ℕ → Cut

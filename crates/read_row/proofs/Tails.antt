@@ -13,12 +13,12 @@ use Rattle.spec_text.specs.Bytes.{Bytes, Part, noPart, same}
 use Rattle.spec_text.specs.Tree.{Line}
 use Rattle.spec_text.specs.Lines.{Word, words, Parsed, wellFormed, parsed, lineOf, parse}
 use Rattle.spec_text.proofs.Lists.{next-of}
-use Rattle.read_fields.specs.Fields.{endOf, endByte}
-use Rattle.read_row.specs.Again.{paramsAt}
+use Rattle.read_fields.specs.FieldsModel.{endOf, endByte}
+use Rattle.read_row.specs.RowModel.{paramsAt}
 use Rattle.read_row.specs.Worded.{Some}
-use Rattle.read_row.proofs.Table.{named}
+use Rattle.read_row.proofs.FormWords.{named}
 use Rattle.read_row.proofs.Runs.{cutAt, Stands}
-use Rattle.read_row.proofs.Fields.{fields-more}
+use Rattle.read_row.proofs.FieldsLeft.{fields-more}
 
 -- ---- the fields from field k on, where there are fields from an offset on
 from-field : (k : ℕ) (more : Bool) (text : Bytes) (at : ℕ) → let fs = cond more (cutAt text at .fields) [] in

@@ -14,10 +14,10 @@ use Rattle.read_names.specs.Names.{earliest}
 use Rattle.read_tree.specs.Rows.{Row, rowsT}
 use Rattle.read_tree.specs.Laid.{Holds, nameIn, noRow}
 use Rattle.read_tree.proofs.Lengths.{rows-length}
-use Rattle.read_row.specs.Again.{paramsOf}
+use Rattle.read_row.specs.RowModel.{paramsOf}
 use Rattle.read_row.specs.Worded.{Some, WordedSs}
 use Rattle.read_row.proofs.Runs.{runs-again, runs-below}
-use Rattle.read_row.proofs.Whole.{whole}
+use Rattle.read_row.proofs.TreeRows.{whole}
 use Rattle.read_row.proofs.Kept.{kind-kept, below-kept, params-kept, line-kept, number-kept}
 pub use Rattle.read_row.proofs.Runs.{Stands, Again}
 pub use Rattle.read_row.proofs.Tails.{ParamWord}

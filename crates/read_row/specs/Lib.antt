@@ -1,3 +1,3 @@
 -- Lines read again: the line of a row, and its parameters.
-pub mod Again
+pub mod RowModel
 pub mod Worded

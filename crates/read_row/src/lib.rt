@@ -6,9 +6,9 @@ ghost use mathlib.Core.Path.{_≡_};
 ghost use mathlib.Core.Bool.{true};
 ghost use Prim.Native.Nat.{_<_, _≤_};
 ghost use lib.ListN.{length};
-ghost use Rattle.read_fields.specs.Fields.{fieldAt};
+ghost use Rattle.read_fields.specs.FieldsModel.{fieldAt};
 ghost use Rattle.spec_faults.specs.Faults.{lacksSelf};
-ghost use Rattle.read_row.specs.Again.{nextAt, partsFrom, paramsOf, lineStart, lineOfRow};
+ghost use Rattle.read_row.specs.RowModel.{nextAt, partsFrom, paramsOf, lineStart, lineOfRow};
 
 const TAB: u8 = 9;
 

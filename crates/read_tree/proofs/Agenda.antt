@@ -4,7 +4,7 @@ use mathlib.Core.List.{[], map}
 use Rattle.spec_text.specs.Tree.{Tree}
 use Rattle.spec_text.specs.Reading.{Rest, Read, deepest}
 use Rattle.read_tree.specs.Rows.{rowsT, globalRow}
-use Rattle.read_tree.specs.Agenda.{State, here, due, first, Leads, after}
+use Rattle.read_tree.specs.AgendaModel.{State, here, due, first, Leads, after}
 use Rattle.read_tree.proofs.Via.{at, Goes, goes-on, goes-out, goes-then}
 use Rattle.read_tree.proofs.Dues.{stmts-go, stmt-go, globals-go}
 

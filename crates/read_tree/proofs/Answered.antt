@@ -11,15 +11,15 @@ use Rattle.spec_text.specs.Bytes.{Bytes, Part}
 use Rattle.spec_text.specs.Tree.{Tree}
 use Rattle.spec_text.specs.Lines.{Form, asSort}
 use Rattle.spec_text.specs.Reading.{Rest, Read, got, refused, andThen, line, globals, stmts, stmt, deepest, Reading, tree, refusal, ended}
-use Rattle.read_names.specs.Chains.{cleared}
+use Rattle.read_names.specs.ChainsModel.{cleared}
 use Rattle.read_tree.specs.declared.Progress.{Progress}
 use Rattle.read_tree.specs.declared.Read.{Read as Answer}
 use Rattle.read_tree.specs.declared.Read.the-variants as R
 use Rattle.read_tree.specs.Rows.{rowsT}
 use Rattle.read_tree.specs.Laid.{skip, Holds, Answers}
-use Rattle.read_tree.specs.Agenda.{after}
-use Rattle.read_tree.specs.Machine.{Stack, stack, pushed, Machine, machine, progressTo, Turns, firstMachine, restAt, answerAt}
-use Rattle.read_tree.proofs.Laws.{holds, fails}
+use Rattle.read_tree.specs.AgendaModel.{after}
+use Rattle.read_tree.specs.MachineModel.{Stack, stack, pushed, Machine, machine, progressTo, Turns, firstMachine, restAt, answerAt}
+use Rattle.read_tree.proofs.FirstTest.{holds, fails}
 use Rattle.read_tree.proofs.Machine.{Ends, machine-reads}
 
 -- ---- a tree has as many globals as its first line counts

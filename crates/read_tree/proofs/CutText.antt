@@ -11,8 +11,8 @@ use borrow.Author.Tests.{le-leb}
 use Rattle.spec_text.specs.Bytes.{Bytes, Part}
 use Rattle.spec_text.specs.Lines.{cut}
 use Rattle.spec_text.proofs.Lists.{All, all-nil, all-cons, next-of}
-use Rattle.read_fields.specs.Fields.{isEnd, field, fieldAt}
-use Rattle.read_names.specs.Chains.{partOf}
+use Rattle.read_fields.specs.FieldsModel.{isEnd, field, fieldAt}
+use Rattle.read_names.specs.ChainsModel.{partOf}
 use Rattle.read_tree.specs.Laid.{skip}
 
 -- ---- a field

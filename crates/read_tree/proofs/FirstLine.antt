@@ -11,13 +11,13 @@ use Rattle.spec_text.specs.Tree.{Tree}
 use Rattle.spec_text.specs.Lines.{Form, countAt}
 use Rattle.spec_text.specs.Reading.{Read, andThen, Due, ended, readTree, Reading, refusal, reading}
 use Rattle.read_line.specs.declared.Line.{Line}
-use Rattle.read_line.specs.Line.{lineAt}
+use Rattle.read_line.specs.LineModel.{lineAt}
 use Rattle.read_tree.specs.declared.Due.{Due as Found}
 use Rattle.read_tree.specs.declared.Read.{Read as Answer}
 use Rattle.read_tree.specs.declared.Read.the-variants as R
 use Rattle.read_tree.specs.Laid.{skip, Answers}
-use Rattle.read_tree.specs.Agenda.{lineDue, after}
-use Rattle.read_tree.specs.Machine.{dueAt, restAt}
+use Rattle.read_tree.specs.AgendaModel.{lineDue, after}
+use Rattle.read_tree.specs.MachineModel.{dueAt, restAt}
 use Rattle.read_tree.proofs.Same.{Same, read, refuse, same}
 
 -- a text is read by its first line, and then by its counts

@@ -11,18 +11,18 @@ use Rattle.spec_text.specs.Bytes.{Bytes}
 use Rattle.spec_text.specs.Tree.{Line}
 use Rattle.spec_text.specs.Lines.{Form, Parsed, countAt}
 use Rattle.spec_text.specs.Reading.{Rest, Read, got, refused, Due, tooDeep, line}
-use Rattle.read_line.specs.Line.{lineAt, numbersOf}
+use Rattle.read_line.specs.LineModel.{lineAt, numbersOf}
 use Rattle.read_tree.specs.Rows.{Row, row}
 use Rattle.read_tree.specs.Laid.{startOf}
-use Rattle.read_tree.specs.Agenda.{Entry, run, close, due, dueBelow, childrenIn, State, Phase, on, stopped, closeAt, ofSort, lineDue, opened, turned, turn}
-use Rattle.read_tree.specs.Machine.{Machine, machine, progressTo, Stack, stack, entryOf, turnBy, turnOf, taken, takenIf, onward, below, dueAt, childrenBy, restAt, Few}
-use Rattle.read_tree.specs.Machine.{runWord, closeWord, rowClosed, rowWritten, lessened, isLeaf, pushedDue}
+use Rattle.read_tree.specs.AgendaModel.{Entry, run, close, due, dueBelow, childrenIn, State, Phase, on, stopped, closeAt, ofSort, lineDue, lineOpened, turned, turn}
+use Rattle.read_tree.specs.MachineModel.{Machine, machine, progressTo, Stack, stack, entryOf, turnBy, turnOf, taken, takenIf, onward, below, dueAt, childrenBy, restAt, Few}
+use Rattle.read_tree.specs.MachineModel.{runWord, closeWord, rowClosed, rowWritten, lessened, isLeaf, pushedDue}
 use Rattle.read_tree.specs.declared.Children.{Children}
 use Rattle.read_tree.proofs.Via.{at as state}
 use Rattle.read_tree.proofs.Same.{Known, Same, read, refuse, same}
 use Rattle.read_tree.proofs.Starts.{skip-next}
 use Rattle.read_tree.proofs.Few.{few-by}
-use Rattle.read_tree.proofs.Held.{Held, wordOf, word-on, fits-on, fits-due, fits-row, due-low, pop-held, lessened-held, below-held}
+use Rattle.read_tree.proofs.Buffer.{Held, wordOf, word-on, fits-on, fits-due, fits-row, due-low, pop-held, lessened-held, below-held}
 use Rattle.read_tree.proofs.Written.{length-more, row-held, close-length, closed-held}
 
 -- ---- the machine stands where a state of the agenda stands
@@ -120,7 +120,7 @@ module _ (text : Bytes) (short : length text ≤ 65_536) (w : List ℕ) (at top 
         → lineDue s d (restAt text at (length rows + 2)) ≡ refused k (length rows + 2) → Turns-to (run s (suc n) d ∷ under)
     turn-refused k some r l =
         let m = refused-turns (λ q. some (sym r ∙ q)) in
-        subst (λ y. Follows text now (opened y (pred d) (due s n d under) rows)) (sym l)
+        subst (λ y. Follows text now (lineOpened y (pred d) (due s n d under) rows)) (sym l)
         (ends {n = length rows + 2} (omega (arith, h .top)) some
         (ap (λ z. z .progress .top) m) (ap (λ z. z .progress .refusal) m ∙ r) (ap (λ z. z .progress .rows + 2) m))
 
@@ -200,7 +200,7 @@ module _ (text : Bytes) (short : length text ≤ 65_536) (w : List ℕ) (at top 
           → Turns-to (run s (suc n) d ∷ under)
       turn-read l =
           let left = levels-left s d (restAt text at (length rows + 2)) l in
-          subst (λ y. Follows text now (opened y (pred d) (due s n d under) rows)) (sym l)
+          subst (λ y. Follows text now (lineOpened y (pred d) (due s n d under) rows)) (sym l)
           (subst (λ k. Follows text now (on (then k))) (sym (left .1)) (read-follows (left .0)))
 
     turn-run : Turns-to (run s (suc n) d ∷ under)

@@ -13,11 +13,11 @@ pub mod ParsedFacts
 pub mod Same
 pub mod Starts
 pub mod Few
-pub mod Held
+pub mod Buffer
 pub mod Written
 pub mod Follows
-pub mod Laws
-pub mod Steps
+pub mod FirstTest
+pub mod InNumbers
 pub mod Bounds
 pub mod FirstLine
 pub mod Answered

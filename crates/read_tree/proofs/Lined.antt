@@ -15,7 +15,7 @@ use Rattle.spec_text.specs.Lines.{Form, Word, words, Cut, cut, Parsed, wellForm
 use Rattle.spec_text.specs.Reading.{Rest, Read, got, refused, andThen, Due, withinLimits, limited, dueHere, line, tooDeep}
 use Rattle.spec_text.proofs.Lists.{and-split}
 use Rattle.read_tree.specs.Rows.{Row, row}
-use Rattle.read_tree.specs.Agenda.{Entry, run, close, due, childrenIn, dueBelow, State, Phase, ofSort, opened, here, step, stop}
+use Rattle.read_tree.specs.AgendaModel.{Entry, run, close, due, childrenIn, dueBelow, State, Phase, ofSort, lineOpened, here, step, stop}
 use Rattle.read_tree.proofs.Sorts.{Fits, fits-some, fits-none, Sorts}
 use Rattle.read_tree.proofs.Via.{at, Goes, goes-from, goes-out, Refuses, refuses}
 
@@ -137,8 +137,8 @@ module _ {A : Type 0} {back : A → Form} {made : Form → Option A} (s : ℕ) (
     opens : (d : ℕ) {B : Type 0} {Q : B → Rest → State} (f : Due A → Rest → Read B) → Opens d Q f
         → {x : Read (Due A)} {y : Read (Due Form)} → Alike back x y → line (ofSort s) r ≡ y → Goes (at (run s (suc n) (suc d) ∷ more) r rows) Q (andThen x f)
     opens d f h (alike-got a l counts left t) e =
-        goes-from (step (ap (λ (y : Read (Due Form)). opened y d (due s n (suc d) more) rows) e) here) (h a l counts left t)
-    opens d f h (alike-refused k m) e = goes-out (stop (ap (λ (y : Read (Due Form)). opened y d (due s n (suc d) more) rows) e))
+        goes-from (step (ap (λ (y : Read (Due Form)). lineOpened y d (due s n (suc d) more) rows) e) here) (h a l counts left t)
+    opens d f h (alike-refused k m) e = goes-out (stop (ap (λ (y : Read (Due Form)). lineOpened y d (due s n (suc d) more) rows) e))
 
     pub line-then : (d : ℕ) {B : Type 0} {Q : B → Rest → State} (f : Due A → Rest → Read B) → Opens d Q f
         → Goes (at (run s (suc n) (suc d) ∷ more) r rows) Q (andThen (line made r) f)
@@ -146,7 +146,7 @@ module _ {A : Type 0} {back : A → Form} {made : Form → Option A} (s : ℕ) (
 
     -- with no level left no line is read
     abbrev deep : Read (Due Form) → Phase
-    deep y = opened (tooDeep (r .number) y) 0 (due s n 0 more) rows
+    deep y = lineOpened (tooDeep (r .number) y) 0 (due s n 0 more) rows
 
     stops : {B : Type 0} {x : Read (Due A)} {y : Read (Due Form)} → Alike back x y → line (ofSort s) r ≡ y
         → Refuses (at (run s (suc n) 0 ∷ more) r rows) (tooDeep {B = B} (r .number) x)

@@ -11,7 +11,7 @@ use lib.ListN.{length, take, drop, getD}
 use Rattle.spec_text.specs.Bytes.{Bytes, Part, noPart, all, isName, isNumber, valueOf, largestSpan, largestCount, same}
 use Rattle.spec_text.specs.Lines.{Word, words, Parsed, wellFormed, parsed, lineOf, parse, countAt}
 use Rattle.spec_text.proofs.Lists.{and-split, All, all-nil, all-cons, next-of, at-next}
-use Rattle.spec_text.proofs.Parts.{number-small}
+use Rattle.spec_text.proofs.LineParts.{number-small}
 
 -- a line, where P holds of each of its fields
 pub record ParsedFacts (P : Part → Type 0) (p : Parsed) : Type 0 where

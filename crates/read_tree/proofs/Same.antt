@@ -13,13 +13,13 @@ use Rattle.spec_text.specs.Bytes.{Bytes}
 use Rattle.spec_text.specs.Lines.{Form, Cut, cut, Parsed, parse, countAt, sortOf}
 use Rattle.spec_text.specs.Reading.{Rest, Read, got, refused, Due, line, formed, tooDeep}
 use Rattle.spec_text.proofs.Lists.{eqb-sym}
-use Rattle.spec_text.proofs.Parts.{cut-in}
-use Rattle.read_fields.specs.Fields.{fieldAt}
-use Rattle.read_line.specs.Line.{lineAt, cutLine, numbersOf, noLine}
-use Rattle.read_names.specs.Chains.{partOf}
+use Rattle.spec_text.proofs.LineParts.{cut-in}
+use Rattle.read_fields.specs.FieldsModel.{fieldAt}
+use Rattle.read_line.specs.LineModel.{lineAt, cutLine, numbersOf, noLine}
+use Rattle.read_names.specs.ChainsModel.{partOf}
 use Rattle.read_tree.specs.Laid.{skip}
-use Rattle.read_tree.specs.Agenda.{lineDue, ofSort, childrenOf, childrenIn}
-use Rattle.read_tree.specs.Machine.{refusalOf, dueAt, childrenBy, restAt}
+use Rattle.read_tree.specs.AgendaModel.{lineDue, ofSort, childrenOf, childrenIn}
+use Rattle.read_tree.specs.MachineModel.{refusalOf, dueAt, childrenBy, restAt}
 use Rattle.read_tree.proofs.CutText.{FieldIn, field-inside, cut-fields, cut-skips, skip-onward}
 use Rattle.read_tree.proofs.ParsedFacts.{ParsedFacts, parsed-facts}
 

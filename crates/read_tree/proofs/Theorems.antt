@@ -9,7 +9,7 @@ use Rattle.spec_text.specs.Bytes.{Bytes}
 use Rattle.spec_text.specs.Reading.{Reading}
 use Rattle.work_rows.specs.Layout.{offsetAt, numberAt}
 use Rattle.read_names.specs.Names.{earliest}
-use Rattle.read_names.specs.Chains.{lookup}
+use Rattle.read_names.specs.ChainsModel.{lookup}
 use Rattle.read_names.proofs.Theorems.{same-number, lookup-earliest}
 use Rattle.read_tree.specs.Rows.{Row}
 use Rattle.read_tree.specs.Laid.{Holds, Answers, nameIn}

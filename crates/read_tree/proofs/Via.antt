@@ -7,7 +7,7 @@ use lib.ListN.{length}
 use Rattle.spec_text.specs.Tree.{Line}
 use Rattle.spec_text.specs.Reading.{Rest, Read, got, refused, andThen}
 use Rattle.read_tree.specs.Rows.{Row, row}
-use Rattle.read_tree.specs.Agenda.{Entry, close, State, Phase, on, stopped, closeAt, Via, here, step}
+use Rattle.read_tree.specs.AgendaModel.{Entry, close, State, Phase, on, stopped, closeAt, Via, here, step}
 use Rattle.read_tree.proofs.Lengths.{Sized}
 
 abbrev pub at : List Entry → Rest → List Row → State

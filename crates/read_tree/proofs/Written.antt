@@ -14,18 +14,18 @@ use Rattle.spec_text.specs.Bytes.{Bytes}
 use Rattle.spec_text.specs.Tree.{Line}
 use Rattle.spec_text.specs.Lines.{Parsed}
 use Rattle.spec_text.proofs.Lists.{All, all-nil, all-cons}
-use Rattle.read_line.specs.Line.{numbersOf}
+use Rattle.read_line.specs.LineModel.{numbersOf}
 use Rattle.work_rows.specs.Layout.{put, rowsMost, nameBase, dueBase, offsetAt, kindAt}
-use Rattle.read_fields.specs.Fields.{fieldAt, hashOf}
-use Rattle.read_names.specs.Chains.{Names, partOf, placed, added}
+use Rattle.read_fields.specs.FieldsModel.{fieldAt, hashOf}
+use Rattle.read_names.specs.ChainsModel.{Names, partOf, placed, added}
 use Rattle.read_names.proofs.Theorems.{Outside, other-names, placed-names, placed-length, placed-offset, placed-rows, placed-outside}
 use Rattle.read_names.proofs.Theorems.{added-names, added-length, added-offset, added-rows, added-outside}
 use Rattle.read_tree.specs.Rows.{Row, row}
 use Rattle.read_tree.specs.Laid.{Holds, numberOf, nameIn, startOf, offsetOf}
-use Rattle.read_tree.specs.Agenda.{Entry, closeAt}
-use Rattle.read_tree.specs.Machine.{stack, rowWritten, rowClosed}
+use Rattle.read_tree.specs.AgendaModel.{Entry, closeAt}
+use Rattle.read_tree.specs.MachineModel.{stack, rowWritten, rowClosed}
 use Rattle.read_tree.proofs.Same.{Known}
-use Rattle.read_tree.proofs.Held.{Kind, Held, stacked-kept, rows-few, put-stores}
+use Rattle.read_tree.proofs.Buffer.{Kind, Held, stacked-kept, rows-few, put-stores}
 
 -- ---- lists
 map-more : {A B : Type 0} (f : A → B) (l : List A) (a : A) → map f (l ++ (a ∷ [])) ≡ map f l ++ (f a ∷ [])

@@ -10,9 +10,9 @@ ghost use mathlib.Core.Path.{_≡_};
 ghost use Prim.Native.Nat.{_+_, _-_, _<_, _≤_};
 ghost use lib.ListN.{length};
 ghost use Rattle.spec_text.specs.Reading.{reading, ended};
-ghost use Rattle.read_tree.specs.Agenda.{after};
+ghost use Rattle.read_tree.specs.AgendaModel.{after};
 ghost use Rattle.read_tree.specs.Laid.{Answers, skip};
-ghost use Rattle.read_tree.specs.Machine.{refusalOf, dueAt, childrenBy, stack, pushed, pushedClose, pushedBelow, isLeaf, pushedDue, lessened, rowWritten, rowClosed, Machine, machine, taken, turnOf, Turns, answerAt, restAt, Bounded, left, Few};
+ghost use Rattle.read_tree.specs.MachineModel.{refusalOf, dueAt, childrenBy, stack, pushed, pushedClose, pushedBelow, isLeaf, pushedDue, lessened, rowWritten, rowClosed, Machine, machine, taken, turnOf, Turns, answerAt, restAt, Bounded, left, Few};
 
 // The most bytes of a text, the most lines after the first, the deepest line, the shortest work buffer, the most parameters.
 const LONGEST_TEXT: usize = 65536;

@@ -1,2 +1,2 @@
 -- Messages as bytes.
-pub mod Messages
+pub mod MessagesModel

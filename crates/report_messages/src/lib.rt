@@ -5,7 +5,7 @@ ghost use mathlib.Core.Path.{_≡_};
 ghost use mathlib.Core.List.{_++_};
 ghost use Prim.Native.Nat.{_<_, _≤_};
 ghost use lib.ListN.{length};
-ghost use Rattle.report_messages.specs.Messages.{messageOf, Pushes};
+ghost use Rattle.report_messages.specs.MessagesModel.{recordMessage, Pushes};
 
 // Pushes bytes to a buffer that is filled up to an offset, as many as there is room for; answers how far it is filled.
 pub fn push(out: &mut [u8], at: usize, bytes: &[u8]) -> usize
@@ -45,7 +45,7 @@ fn round(
 // Pushes the message of a record.
 pub fn push_message(text: &[u8], out: &mut [u8], at: usize, r: Record) -> usize
     requires { ⌜ at ≤ length (now out) ⌝ }
-    ensures { λ e. ⌜ Pushes (now (out .entry)) at (messageOf (now (text .entry)) r) (now (out .exit)) e ⌝ }
+    ensures { λ e. ⌜ Pushes (now (out .entry)) at (recordMessage (now (text .entry)) r) (now (out .exit)) e ⌝ }
 {
     let n = read_names::part(text, r.name, r.name_len);
     let c = read_names::part(text, r.class, r.class_len);
@@ -98,7 +98,7 @@ pub fn push_message(text: &[u8], out: &mut [u8], at: usize, r: Record) -> usize
 // How many bytes the message of a record has.
 pub fn message_len(text: &[u8], r: Record) -> usize
     requires { ⌜ length (now text) < 4294967296 ⌝ }
-    ensures { λ n. ⌜ n ≡ length (messageOf (now (text .entry)) r) ⌝ }
+    ensures { λ n. ⌜ n ≡ length (recordMessage (now (text .entry)) r) ⌝ }
 {
     let names = read_names::part(text, r.name, r.name_len).len()
         + read_names::part(text, r.class, r.class_len).len();

@@ -11,9 +11,9 @@ use lib.Seq.{getD-set-other}
 use borrow.Author.Tests.{ltb-true}
 use Rattle.spec_faults.specs.Faults.{capture}
 use Rattle.work_rows.specs.Layout.{put, rowsMost, dueBase}
-use Rattle.work_marks.specs.Marks.{slotAt}
+use Rattle.work_marks.specs.MarksModel.{slotAt}
 use Rattle.report_order.specs.declared.Around.{Around}
-use Rattle.report_order.specs.Listing.{entry, slotIn, captured, captures, called, itself, around, placedAt, entriesFrom, stored}
+use Rattle.report_order.specs.OrderModel.{entry, slotIn, captured, captures, called, itself, around, placedAt, entriesFrom, stored}
 
 -- ---- the rows and the slots stay
 abbrev pub Same : List ℕ → List ℕ → Type 0

@@ -1,2 +1,2 @@
 -- The faults in the report's order.
-pub mod Listing
+pub mod OrderModel

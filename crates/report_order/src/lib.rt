@@ -10,7 +10,7 @@ ghost use Prim.Native.Nat.{_+_, _-_, _<_, _≤_};
 ghost use lib.Dec.{eqb};
 ghost use lib.ListN.{length};
 ghost use Rattle.spec_faults.specs.Faults.{capture};
-ghost use Rattle.report_order.specs.Listing.{entry, slotIn, captured, captures, called, itself, around, placedAt, entries, stored, entryAt};
+ghost use Rattle.report_order.specs.OrderModel.{entry, slotIn, captured, captures, called, itself, around, placedAt, entries, stored, entryAt};
 
 // An entry is its kind, the row whose span it shows, and the row whose name it shows.
 const PLACES: usize = 8192;
@@ -43,7 +43,7 @@ fn is_capture(kind: usize) -> bool
     kind == fault_kind::UNDEFINED_CAPTURE || kind == fault_kind::UNBOUND_CAPTURE
 }
 
-fn is_own(kind: usize) -> bool
+fn is_its_own_place(kind: usize) -> bool
     ensures { λ r. ⌜ r ≡ (eqb kind 8 || (eqb kind 11 || eqb kind 14)) ⌝ }
 {
     kind == fault_kind::UNDEFINED_VARIABLE
@@ -113,7 +113,7 @@ fn list_itself(work: &mut [u32], class: usize, p: usize, count: usize) -> usize
     ensures { λ r. ⌜ (now (work .exit) ≡ stored (itself (now (work .entry)) class p) count (now (work .entry))) × (r ≡ count + length (itself (now (work .entry)) class p)) ⌝ }
 {
     let kind = slot_in(work, p);
-    if is_own(kind) {
+    if is_its_own_place(kind) {
         return add(work, count, kind, p, p);
     }
     if kind == fault_kind::METHOD_WITHOUT_SELF {

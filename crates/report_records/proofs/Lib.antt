@@ -1,2 +1,2 @@
 -- The proofs about records.
-mod Laws
+mod SevenStores

@@ -1,2 +1,2 @@
 -- The records of faults.
-pub mod Records
+pub mod RecordsModel

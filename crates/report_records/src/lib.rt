@@ -6,7 +6,7 @@ ghost use Prim.Native.Nat.{_<_, _≤_, _+_};
 ghost use lib.ListN.{length, take, drop};
 ghost use mathlib.Core.List.{_++_};
 ghost use mathlib.Core.Bool.{cond};
-ghost use Rattle.report_records.specs.Records.{recordOf, words};
+ghost use Rattle.report_records.specs.RecordsModel.{recordOf, numbers32};
 
 // How many numbers a record has.
 pub const RECORD: usize = 7;
@@ -54,7 +54,7 @@ pub fn record_of(text: &[u8], work: &[u32], e: Entry) -> Record
 // Writes a record at an index, where there is room.
 pub fn put_record(out: &mut [u32], at: usize, r: Record)
     requires { ⌜ at + 7 ≤ length (now out) ⌝ }
-    ensures { λ _. ⌜ now (out .exit) ≡ take at (now (out .entry)) ++ (words r ++ drop (at + 7) (now (out .entry))) ⌝ }
+    ensures { λ _. ⌜ now (out .exit) ≡ take at (now (out .entry)) ++ (numbers32 r ++ drop (at + 7) (now (out .entry))) ⌝ }
 {
     work_rows::put(out, at, r.kind);
     work_rows::put(out, at + 1, work_rows::wide(r.start));

@@ -2,6 +2,6 @@
 pub mod Demands
 pub mod Passed
 mod Agreed
-mod Shown
-mod Answers
-mod Writes
+mod FaultWritten
+mod Cases
+mod Over

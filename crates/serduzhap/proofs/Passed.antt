@@ -13,7 +13,7 @@ use Rattle.spec_text.specs.Reading.{tree, reading}
 use Rattle.spec_faults.specs.Position.{Placed, Home, Where, Use, isRead, Visited, visited}
 use Rattle.spec_faults.specs.Faults.{Binding, bindings, Fault, lambdaParam, own, assigned, inView, capture, judgeRead, judged, faultOf, judge, faults}
 use Rattle.spec_faults.proofs.Lists.{All, none, also}
-use Rattle.spec_faults.proofs.Walk.{once}
+use Rattle.spec_faults.proofs.ListingWalk.{once}
 use Rattle.spec_faults.proofs.Once.{placed, byPlaceOnce, faults-once}
 use Rattle.spec_faults.proofs.Places.{PlacedWithin, faults-within}
 use Rattle.spec_answers.specs.Answers.{checkOf}

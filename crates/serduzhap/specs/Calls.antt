@@ -6,8 +6,8 @@ use mathlib.Core.List.{List, [], _++_}
 use lib.ListN.{length}
 use Rattle.spec_text.specs.Bytes.{Bytes, Part}
 use Rattle.spec_answers.specs.Answers.{CheckAnswer, accepted, faulty, check, ReportAnswer, written, report, reportOut, MessageAnswer, wrote, noFault, tooLong, message, messageOut}
-use Rattle.report_order.specs.Listing.{entryAt}
-use Rattle.report_records.specs.Records.{recordOf, numbers, words}
+use Rattle.report_order.specs.OrderModel.{entryAt}
+use Rattle.report_records.specs.RecordsModel.{recordOf, numbers, numbers32}
 use Rattle.serduzhap.specs.declared.CheckResult.{CheckResult}
 use Rattle.serduzhap.specs.declared.CheckResult.the-variants as C
 use Rattle.serduzhap.specs.declared.ReportResult.{ReportResult}
@@ -53,4 +53,4 @@ partSays x = record { offset = x .offset; len = length (x .bytes) }
 -- ---- how the code goes about it: the records of n entries from the j-th on
 abbrev pub recordsOf : Bytes → List ℕ → ℕ → ℕ → List ℕ
 recordsOf text w j zero = []
-recordsOf text w j (suc n) = words (recordOf text w (entryAt w j)) ++ recordsOf text w (j + 1) n
+recordsOf text w j (suc n) = numbers32 (recordOf text w (entryAt w j)) ++ recordsOf text w (j + 1) n

@@ -7,8 +7,8 @@ ghost use mathlib.Core.Path.{_≡_};
 ghost use Prim.Native.Nat.{_<_, _≤_, _*_};
 ghost use lib.ListN.{length};
 ghost use Rattle.spec_answers.specs.Answers.{messageOut, wroteIf, name, over};
-ghost use Rattle.report_messages.specs.Messages.{messageOf};
-ghost use Rattle.read_names.specs.Chains.{partOf};
+ghost use Rattle.report_messages.specs.MessagesModel.{recordMessage};
+ghost use Rattle.read_names.specs.ChainsModel.{partOf};
 ghost use Rattle.serduzhap.specs.Calls.{Checks, Reports, messageSays, Messages, partSays, recordsOf};
 
 // Accepted; the record of the first fault; or a refusal, by number and line.
@@ -95,7 +95,7 @@ pub fn report(text: &[u8], work: &mut [u32], out: &mut [u32]) -> ReportResult
 // Writes the message of a record, if there is room for it.
 fn write_message(text: &[u8], out: &mut [u8], r: Record) -> MessageResult
     requires { ⌜ length (now text) < 4294967296 ⌝ }
-    ensures { λ m. ⌜ (m ≡ messageSays (wroteIf (length (now (out .entry))) (messageOf (now (text .entry)) r))) × (now (out .exit) ≡ messageOut (wroteIf (length (now (out .entry))) (messageOf (now (text .entry)) r)) (now (out .entry))) ⌝ }
+    ensures { λ m. ⌜ (m ≡ messageSays (wroteIf (length (now (out .entry))) (recordMessage (now (text .entry)) r))) × (now (out .exit) ≡ messageOut (wroteIf (length (now (out .entry))) (recordMessage (now (text .entry)) r)) (now (out .entry))) ⌝ }
 {
     let len = report_messages::message_len(text, r);
     if out.len() < len {

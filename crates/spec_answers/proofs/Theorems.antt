@@ -13,7 +13,7 @@ use Rattle.spec_text.specs.Reading.{Reading, tree, refusal, reading}
 use Rattle.spec_faults.specs.Faults.{Fault, faults, recordLength, records}
 use Rattle.spec_faults.specs.Rust.{Checked, analyze-with-globals, firstError}
 use Rattle.spec_faults.proofs.Theorems.{rust-walk}
-use Rattle.spec_answers.specs.Answers.{CheckAnswer, accepted, faulty, firstRecord, checkOf, check, ReportAnswer, written, reported, reportOf, report, MessageAnswer, wrote, tooLong, noFault, faultAt, messageOr, messageIn, message}
+use Rattle.spec_answers.specs.Answers.{CheckAnswer, accepted, faulty, firstRecord, checkOf, check, ReportAnswer, written, reported, reportOf, report, MessageAnswer, wrote, tooLong, noFault, nthFault, messageOr, messageIn, message}
 
 -- what the check answers, by the numbers of a full report: accepted where there are none, else the first record
 abbrev pub firstOf : List ℕ → CheckAnswer
@@ -75,6 +75,6 @@ Words (some e) out = elim (ltb out (length (e .message))) [ true ↦ tooLong | f
 pub rust-message : (text : Bytes) (work out : ℕ) (t : Tree) → reading text work ≡ tree t → message text work 0 out ≡ Words (analyze-with-globals t) out
 rust-message text work out t e = ap (messageIn 0 out) e ∙ go (faults t) ∙ ap (λ c. Words c out) (sym (rust-walk t))
   where
-    go : (fs : List Fault) → messageOr out (faultAt fs 0) ≡ Words (firstError fs) out
+    go : (fs : List Fault) → messageOr out (nthFault fs 0) ≡ Words (firstError fs) out
     go [] = refl
     go (f ∷ fs) = refl

@@ -51,10 +51,10 @@ pub data MessageAnswer : Type 0 where
   refused : ℕ → ℕ → MessageAnswer
   noFault tooLong : MessageAnswer
 
-abbrev pub faultAt : List Fault → ℕ → Option Fault
-faultAt [] i = none
-faultAt (f ∷ fs) zero = some f
-faultAt (f ∷ fs) (suc i) = faultAt fs i
+abbrev pub nthFault : List Fault → ℕ → Option Fault
+nthFault [] i = none
+nthFault (f ∷ fs) zero = some f
+nthFault (f ∷ fs) (suc i) = nthFault fs i
 
 abbrev pub wroteIf : ℕ → Bytes → MessageAnswer
 wroteIf out m = elim (ltb out (length m)) [ true ↦ tooLong | false ↦ wrote m ]
@@ -64,7 +64,7 @@ messageOr out none = noFault
 messageOr out (some f) = wroteIf out (messageOf f)
 
 abbrev pub messageIn : ℕ → ℕ → Reading → MessageAnswer
-messageIn i out (tree t) = messageOr out (faultAt (faults t) i)
+messageIn i out (tree t) = messageOr out (nthFault (faults t) i)
 messageIn i out (refusal k n) = MessageAnswer.refused k n
 
 abbrev pub message : Bytes → ℕ → ℕ → ℕ → MessageAnswer
@@ -77,7 +77,7 @@ nameOf none = noPart
 nameOf (some f) = f .name
 
 abbrev pub nameIn : ℕ → Reading → Part
-nameIn i (tree t) = nameOf (faultAt (faults t) i)
+nameIn i (tree t) = nameOf (nthFault (faults t) i)
 nameIn i (refusal k n) = noPart
 
 abbrev pub name : Bytes → ℕ → ℕ → Part

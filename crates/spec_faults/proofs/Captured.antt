@@ -11,7 +11,7 @@ use Rattle.spec_text.specs.Tree.{Line, Expr, Exprs, var, node, access, tuple, c
 use Rattle.spec_faults.specs.Position.{Placed, inModule, Use, value, callee}
 use Rattle.spec_faults.specs.Faults.{Fault, undefinedHere, unless, keep, capture}
 use Rattle.spec_faults.specs.Rust.{ScopeStack, known, SemanticError, error, Checked, check, and-then, check-name, callee-or, collect-free-vars, collect-free-vars-all, check-captured, analyze-expr-module, analyze-exprs-module, analyze-expr-function, analyze-exprs-function, errorOf, firstError}
-use Rattle.spec_faults.proofs.Walk.{State, Env, withParams, Mode, plain, captures, inside, test, once, walkE, walkEs}
+use Rattle.spec_faults.proofs.ListingWalk.{State, Env, withParams, Mode, plain, captures, inside, test, once, walkE, walkEs}
 use Rattle.spec_faults.proofs.Lists.{mem-append}
 use Rattle.spec_faults.proofs.Stack.{pushed, known-enter}
 

@@ -11,9 +11,9 @@ use Rattle.spec_text.specs.Bytes.{Part, same, mem, any}
 use Rattle.spec_text.specs.Tree.{Tree, lenSs, firstLine}
 use Rattle.spec_faults.specs.Faults.{Fault, capture, byPlace, faults}
 use Rattle.spec_faults.proofs.Lists.{All, also}
-use Rattle.spec_faults.proofs.Walk.{once, moduleEnv, startState}
+use Rattle.spec_faults.proofs.ListingWalk.{once, moduleEnv, startState}
 use Rattle.spec_faults.proofs.Once.{placed, byPlaceOnce, by-place, faults-once}
-use Rattle.spec_faults.proofs.Raw.{rawSs, raw-faults}
+use Rattle.spec_faults.proofs.InTextOrder.{rawSs, raw-faults}
 
 -- a capture that stands for the same lambda and name
 abbrev pub sameCapture : Fault → Fault → Bool

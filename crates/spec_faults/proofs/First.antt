@@ -11,7 +11,7 @@ use Rattle.spec_text.specs.Tree.{Line, Expr, Exprs, Stmt, Stmts, Methods, Tree,
 use Rattle.spec_faults.specs.Position.{Placed, Home, inModule, inDef, inMethod, Use, value, callee}
 use Rattle.spec_faults.specs.Faults.{Fault, faultAt, unboundHere, undefinedHere, unless, lacksSelf, selfless}
 use Rattle.spec_faults.specs.Rust.{ScopeStack, pop, define, define-new, known, SemanticError, Checked, check, Result, ok, err, after, followed, check-name, collect-locals, analyze-expr-module, analyze-exprs-module, analyze-expr-function, analyze-exprs-function, validate-and-analyze-assign-target, validate-and-analyze-assign-targets, validate-and-analyze-assign-target-function, validate-and-analyze-assign-targets-function, for-var-function, analyze-stmt-function, analyze-stmts-function, analyze-methods, analyze-stmt-module, analyze-stmts-module, answer, analyze-with-globals, errorOf, firstError, State as RustState}
-use Rattle.spec_faults.proofs.Walk.{State, assigning, naming, entered, afterT, afterTs, afterS, afterSs, Env, withParams, plain, captures, inside, test, walkE, walkEs, walkT, walkTs, moduleEnv, inClasses, walkS, walkSs, walkMs, walk, startState}
+use Rattle.spec_faults.proofs.ListingWalk.{State, assigning, naming, entered, afterT, afterTs, afterS, afterSs, Env, withParams, plain, captures, inside, test, walkE, walkEs, walkT, walkTs, moduleEnv, inClasses, walkS, walkSs, walkMs, walk, startState}
 use Rattle.spec_faults.proofs.Lists.{same-eq, mem-append}
 use Rattle.spec_faults.proofs.Stack.{open-pop, pushed, View, view-define, view-new, view-enter, view-start}
 use Rattle.spec_faults.proofs.Captured.{Finds, finds-as, finds-unless, finds-both, placed, nameOf, readIn, used, used-value, Captures, lambda-first, nameM, nameF, underM, Inside, inside-under, underF}

@@ -6,10 +6,10 @@ pub mod Read
 pub mod Ascending
 pub mod Places
 pub mod Once
-pub mod Listed
-pub mod Walk
+pub mod Report
+pub mod ListingWalk
 pub mod Bound
-pub mod Raw
+pub mod InTextOrder
 pub mod Order
 pub mod Stack
 pub mod Captured

@@ -14,7 +14,7 @@ use Rattle.spec_text.specs.Tree.{Tree, lenSs, firstLine}
 use Rattle.spec_faults.specs.Position.{Visited, visited}
 use Rattle.spec_faults.specs.Faults.{Binding, bindings, Fault, faultOf, judge, capture, precedes, repeated, keep, byPlace, faults}
 use Rattle.spec_faults.proofs.Lists.{same-sym, same-eq, any-judge}
-use Rattle.spec_faults.proofs.Walk.{once}
+use Rattle.spec_faults.proofs.ListingWalk.{once}
 use Rattle.spec_faults.proofs.Ascending.{end, next, ascend-here, Lined, faults-ascend}
 
 abbrev pub placed : ℕ → List Fault → List Fault

@@ -10,8 +10,8 @@ use Rattle.spec_text.specs.Bytes.{any, all}
 use Rattle.spec_text.specs.Tree.{Tree, lenSs}
 use Rattle.spec_faults.specs.Faults.{Fault, is, keep, faults, isFault, ordered, records, fullReport}
 use Rattle.spec_faults.specs.Rust.{analyze-with-globals, firstError}
-use Rattle.spec_faults.proofs.Walk.{walk}
-use Rattle.spec_faults.proofs.Listed.{listed-once, listed-are-faults, faults-are-listed, listed-in-order, faults-at-most-lines}
+use Rattle.spec_faults.proofs.ListingWalk.{walk}
+use Rattle.spec_faults.proofs.Report.{listed-once, listed-are-faults, faults-are-listed, listed-in-order, faults-at-most-lines}
 use Rattle.spec_faults.proofs.Order.{faults-walk}
 use Rattle.spec_faults.proofs.First.{rust-first}
 

@@ -14,7 +14,7 @@ use Rattle.spec_text.specs.Bytes.{Bytes}
 use Rattle.spec_text.specs.Lines.{Form, Cut, cut, Parsed, parse}
 use Rattle.spec_text.specs.Reading.{mostLines, mostParams, Rest, Read, got, refused, andThen, Due, withinLimits, limited, dueHere, tooDeep, line}
 use Rattle.spec_text.proofs.Lists.{and-split}
-use Rattle.spec_text.proofs.Parts.{CutIn, cut-in, ParsedFits, Found, cut-found}
+use Rattle.spec_text.proofs.LineParts.{CutIn, cut-in, ParsedFits, Found, cut-found}
 
 -- ---- what a reader returns
 pub record IsLineNumber (n : ℕ) : Type 0 where

@@ -11,7 +11,7 @@ use Rattle.spec_text.specs.Tree.{Expr, Exprs, Attrs, Stmt, Stmts, Method
 use Rattle.spec_text.specs.Lines.{StmtForm, ExprForm, Form, countAt, asStmt, asExpr, asSort}
 use Rattle.spec_text.specs.Reading.{Rest, Read, Due, exprs, attrs, stmts, methods, expr, stmt, elif, methodsAt, attrsAt, globals}
 use Rattle.spec_text.proofs.Lists.{All, all-nil, all-cons}
-use Rattle.spec_text.proofs.Parts.{IsNameOf, LineIn, global-name}
+use Rattle.spec_text.proofs.LineParts.{IsNameOf, LineIn, global-name}
 use Rattle.spec_text.proofs.Shape.{depthE, depthEs, depthAs, depthS, depthSs, depthMs, EachE, EachEs, EachAs, EachS, EachSs, EachMs}
 use Rattle.spec_text.proofs.Fine.{Fine, fine-got, fine-then, Good, Headed, line-then, line-fine, too-deep}
 

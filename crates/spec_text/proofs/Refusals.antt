@@ -13,7 +13,7 @@ use Rattle.spec_text.specs.Tree.{Tree, lenSs}
 use Rattle.spec_text.specs.Lines.{Form, asSort, countAt}
 use Rattle.spec_text.specs.Reading.{longestText, mostLines, deepest, shortestWork, Read, Reading, tree, refusal, ended, readTree, reading}
 use Rattle.spec_text.proofs.Lists.{All}
-use Rattle.spec_text.proofs.Parts.{IsNameOf, LineIn}
+use Rattle.spec_text.proofs.LineParts.{IsNameOf, LineIn}
 use Rattle.spec_text.proofs.Shape.{depthSs, EachSs}
 use Rattle.spec_text.proofs.Fine.{Fine, fine-got, fine-refused, fine-then, line-then, Good, IsLineNumber}
 use Rattle.spec_text.proofs.Levels.{stmts-fine, stmt-fine, globals-fine}

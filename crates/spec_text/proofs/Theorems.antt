@@ -8,7 +8,7 @@ use Rattle.spec_text.specs.Bytes.{Bytes}
 use Rattle.spec_text.specs.Tree.{Tree, lenSs}
 use Rattle.spec_text.specs.Reading.{tree, refusal, reading}
 use Rattle.spec_text.proofs.Lists.{All}
-use Rattle.spec_text.proofs.Parts.{IsNameOf, LineIn}
+use Rattle.spec_text.proofs.LineParts.{IsNameOf, LineIn}
 use Rattle.spec_text.proofs.Shape.{depthSs, EachSs}
 use Rattle.spec_text.proofs.Refusals.{refusalOk, TreeFits, ReadingFits, reading-fits}
 

@@ -1,2 +1,2 @@
 -- The way into a block.
-pub mod Blocks
+pub mod BlocksModel

@@ -3,8 +3,8 @@ use walk_scopes::HOME_DEF;
 use walk_scopes::ScopeStack;
 ghost use mathlib.Core.Path.{_≡_};
 ghost use Prim.Native.Nat.{_<_, _≤_};
-ghost use Rattle.read_row.specs.Again.{paramsOf};
-ghost use Rattle.walk_blocks.specs.Blocks.{enteredOne, entered, opened, reopened};
+ghost use Rattle.read_row.specs.RowModel.{paramsOf};
+ghost use Rattle.walk_blocks.specs.BlocksModel.{enteredOne, entered, opened, reopened};
 
 // Binds a parameter.
 fn enter_one(text: &[u8], work: &mut [u32], s: ScopeStack, name: &[u8])

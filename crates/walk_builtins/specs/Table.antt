@@ -7,17 +7,17 @@ use lib.ListN.{length, take, drop}
 use Rattle.spec_text.specs.Bytes.{Bytes, same}
 use Rattle.spec_faults.specs.Builtins.{Builtin, builtins}
 
--- the place of the first name with the bytes x, from 0; the number of names where there is none
-abbrev pub place : Bytes → List Bytes → ℕ
-place x [] = 0
-place x (y ∷ ys) = elim (same x y) [ true ↦ 0 | false ↦ suc (place x ys) ]
+-- the placeAmong of the first name with the bytes x, from 0; the number of names where there is none
+abbrev pub placeAmong : Bytes → List Bytes → ℕ
+placeAmong x [] = 0
+placeAmong x (y ∷ ys) = elim (same x y) [ true ↦ 0 | false ↦ suc (placeAmong x ys) ]
 
 abbrev pub names : List Bytes
 names = map (λ (b : Builtin). b .name) builtins
 
 -- the number of a name, in the table's order from 0; 13 where it is not built in
 abbrev pub numberOf : Bytes → ℕ
-numberOf x = place x names
+numberOf x = placeAmong x names
 
 -- names that stand one after the other, cut apart by their lengths
 abbrev pub cutBy : List ℕ → Bytes → List Bytes

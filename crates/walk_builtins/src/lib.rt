@@ -4,7 +4,7 @@ ghost use Prim.Native.Nat.{_≤_};
 ghost use lib.ListN.{length};
 ghost use Rattle.spec_text.specs.Bytes.{same, mem};
 ghost use Rattle.spec_faults.specs.Builtins.{builtinNames};
-ghost use Rattle.walk_builtins.specs.Table.{place, numberOf, cutBy, total, Rule};
+ghost use Rattle.walk_builtins.specs.Table.{placeAmong, numberOf, cutBy, total, Rule};
 
 // How many built-in names there are.
 const COUNT: usize = 13;
@@ -35,7 +35,7 @@ fn same_bytes(a: &[u8], b: &[u8]) -> bool
 // The place of the first name with these bytes, among the names that lengths cuts from bytes; the number of lengths where there is none.
 fn find_in(bytes: &[u8], lengths: &[u8], name: &[u8]) -> usize
     requires { ⌜ total (now lengths) ≤ length (now bytes) ⌝ }
-    ensures { λ r. ⌜ r ≡ place (now (name .entry)) (cutBy (now (lengths .entry)) (now (bytes .entry))) ⌝ }
+    ensures { λ r. ⌜ r ≡ placeAmong (now (name .entry)) (cutBy (now (lengths .entry)) (now (bytes .entry))) ⌝ }
 {
     let mut at = 0;
     let mut k = 0;

@@ -1,2 +1,2 @@
 -- The proofs about the given names.
-pub mod Laws
+pub mod Loops

@@ -1,2 +1,2 @@
 -- The given names.
-pub mod Given
+pub mod GivenModel

@@ -6,7 +6,7 @@ use work_rows::HEAD_BASE;
 ghost use mathlib.Core.Path.{_≡_};
 ghost use Prim.Native.Nat.{_<_, _≤_};
 ghost use Rattle.walk_builtins.specs.Table.{names, Rule};
-ghost use Rattle.walk_given.specs.Given.{fresh, given, globalsFrom, begun};
+ghost use Rattle.walk_given.specs.GivenModel.{fresh, given, globalsFrom, begun};
 
 // Forgets all marks, slots and stamps of the rows.
 fn clear(work: &mut [u32], rows: usize)

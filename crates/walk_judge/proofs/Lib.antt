@@ -1,2 +1,2 @@
 -- The proofs about the judgement of a read.
-pub mod Laws
+pub mod Ways

@@ -1,2 +1,2 @@
 -- The judgement of a read.
-pub mod Judged
+pub mod JudgeModel

@@ -6,7 +6,7 @@ use walk_scopes::ScopeStack;
 use work_marks::MARKS;
 ghost use mathlib.Core.Path.{_≡_};
 ghost use Prim.Native.Nat.{_<_};
-ghost use Rattle.walk_judge.specs.Judged.{unboundKind, undefinedKind, faulted, readOf};
+ghost use Rattle.walk_judge.specs.JudgeModel.{unboundKind, undefinedKind, faulted, readOf};
 
 // The kind of a fault of an own name that is not assigned.
 fn unbound_kind(s: ScopeStack, called: bool) -> usize

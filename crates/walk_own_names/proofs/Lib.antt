@@ -1,2 +1,2 @@
 -- The proofs about a def's own names.
-pub mod Steps
+pub mod Ways

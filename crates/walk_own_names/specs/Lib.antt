@@ -1,2 +1,2 @@
 -- A def's own names.
-pub mod Own
+pub mod OwnNamesModel

@@ -4,7 +4,7 @@ use work_marks::MARKS;
 use work_rows::ROWS_MOST;
 ghost use mathlib.Core.Path.{_≡_};
 ghost use Prim.Native.Nat.{_<_, _≤_};
-ghost use Rattle.walk_own_names.specs.Own.{noted, rowNoted, nextNoted, allNoted};
+ghost use Rattle.walk_own_names.specs.OwnNamesModel.{noted, rowNoted, nextNoted, allNoted};
 
 // A row that no read is at or after.
 const NEVER: usize = 8191;

@@ -2,7 +2,7 @@
 // in it has a mark up to that row; so a scope that has ended binds nothing, and leaving it undoes nothing.
 ghost use mathlib.Core.Path.{_≡_};
 ghost use Prim.Native.Nat.{_<_};
-ghost use Rattle.walk_scopes.specs.Scopes.{atModule, pushed, pushedLambda, owns, defined, isDefined};
+ghost use Rattle.walk_scopes.specs.ScopesModel.{atModule, pushed, pushedLambda, owns, defined, isDefined};
 
 // Homes.
 pub const HOME_MODULE: usize = 0;

@@ -1,2 +1,2 @@
 -- The proofs about the walk.
-pub mod Laws
+pub mod Ways

@@ -1,2 +1,2 @@
 -- The walk over the rows of a tree.
-pub mod Walk
+pub mod WalkModel

@@ -10,8 +10,8 @@ use work_rows::ROWS_MOST;
 ghost use mathlib.Core.Path.{_≡_};
 ghost use mathlib.Core.Bool.{false};
 ghost use Prim.Native.Nat.{_<_, _≤_};
-ghost use Rattle.work_marks.specs.Loops.{rowsTo};
-ghost use Rattle.walk_tree.specs.Walk.{nextTarget, targetAt, walkExpr, walkStmt, walkExprs, walkStmts, methodAt, blockAt, walkLine, walked};
+ghost use Rattle.work_marks.specs.LoopsModel.{rowsTo};
+ghost use Rattle.walk_tree.specs.WalkModel.{nextTarget, targetAt, walkExpr, walkStmt, walkExprs, walkStmts, methodAt, blockAt, walkLine, walked};
 
 // The row of the next target.
 fn next_target(work: &[u32], i: usize) -> usize

@@ -5,7 +5,7 @@ use work_rows::KINDS;
 use work_rows::ROWS_MOST;
 ghost use mathlib.Core.Path.{_≡_};
 ghost use Prim.Native.Nat.{_+_, _<_, _≤_};
-ghost use Rattle.work_marks.specs.Marks.{afterRow, lambdaEnd, blockEnd, slotAt, stampAt, putLambdaEnd, putBlockEnd, putSlot, putStamp, raisedLambda, raisedBlock};
+ghost use Rattle.work_marks.specs.MarksModel.{afterRow, lambdaEnd, blockEnd, slotAt, stampAt, putLambdaEnd, putBlockEnd, putSlot, putStamp, raisedLambda, raisedBlock};
 
 // Below a mark stand the row, or the head of a chain of names; a mark has this many values, and the slot stands above it.
 const ROWS: usize = 131072;

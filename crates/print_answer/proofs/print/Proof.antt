@@ -3,7 +3,7 @@ use mathlib.Core.List.{[], _∷_}
 use borrow.Author.Needs.{needs}
 use Rattle.spec_answers.specs.Printed.{decimalOf, lineWith}
 use Rattle.report_messages.proofs.Pushed.{push-more}
-use Rattle.print_lines.specs.Lines.{recordLines}
+use Rattle.print_lines.specs.LinesModel.{recordLines}
 use Rattle.print_answer.proofs.Reported.{print-written, print-refused}
 use Rattle.print_answer.proofs.print.Statement.{statement}
 use Rattle.print_answer.proofs.print.Tie as tie

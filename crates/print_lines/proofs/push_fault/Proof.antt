@@ -2,7 +2,7 @@
 use mathlib.Core.List.{[], _∷_, _++_}
 use Rattle.spec_text.specs.Bytes.{Bytes, bytes}
 use Rattle.spec_answers.specs.Printed.{decimalOf}
-use Rattle.report_messages.specs.Messages.{messageOf}
+use Rattle.report_messages.specs.MessagesModel.{recordMessage}
 use Rattle.report_messages.proofs.Pushed.{push-more}
 use borrow.Author.Needs.{needs}
 use Rattle.print_lines.proofs.push_fault.Statement.{statement}
@@ -60,7 +60,7 @@ returns c =
     let k : Bytes = 9 ∷ decimalOf (a .r .kind) in
     let i : Bytes = 9 ∷ decimalOf (n₂ .before .wide .result) in
     let j : Bytes = 9 ∷ decimalOf (n₃ .before .wide2 .result) in
-    let x = messageOf (a .text .now) (a .r) in
+    let x = recordMessage (a .text .now) (a .r) in
     rw (← n₂ .before .wide .ensures .0, ← n₃ .before .wide2 .ensures .0)
     (push-more (a .out .now) (a .at) (bytes "fault") (k ++ (i ++ (j ++ (9 ∷ x ++ (10 ∷ []))))) (p .push .ensures)
     (push-more (p .push .last .0) (p .push .result) k (i ++ (j ++ (9 ∷ x ++ (10 ∷ [])))) (n₁ .push-number .ensures)

@@ -5,7 +5,7 @@ use native.Mathlib.Numerals.{add-one}
 use native.Mathlib.Omega.{arith}
 use lib.ListN.{length, drop, drop-of-length-le}
 use lib.Seq.{drop-cons}
-use Rattle.read_fields.specs.Fields.{hashFrom}
+use Rattle.read_fields.specs.FieldsModel.{hashFrom}
 use Rattle.read_fields.proofs.Fields.{hash-more, hash-none}
 use Rattle.read_fields.proofs.hash.Statement.{statement}
 use Rattle.read_fields.proofs.hash.Tie as tie

@@ -5,7 +5,7 @@ use Prim.Native.Nat.{ℕ, _≤_, _<_}
 use native.Mathlib.Omega.{arith}
 use lib.Dec.{eqb}
 use borrow.Author.Tests.{eqb-false, eq-eqb, ne-eqb}
-use Rattle.read_fields.specs.Fields.{isEnd}
+use Rattle.read_fields.specs.FieldsModel.{isEnd}
 use Rattle.read_fields.proofs.is_end.Statement.{statement}
 use Rattle.read_fields.proofs.is_end.Tie as tie
 

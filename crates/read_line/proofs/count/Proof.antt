@@ -1,6 +1,6 @@
 -- `count` is `countFrom`: a number where it is due, else none.
 use borrow.Author.Needs.{needs}
-use Rattle.read_line.specs.Steps.{countFrom}
+use Rattle.read_line.specs.StepsModel.{countFrom}
 use Rattle.read_line.proofs.count.Statement.{statement}
 use Rattle.read_line.proofs.count.Tie as tie
 

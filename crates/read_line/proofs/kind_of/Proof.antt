@@ -6,7 +6,7 @@ use mathlib.Core.List.{List, []}
 use Prim.Native.Nat.{ℕ}
 use Rattle.spec_text.specs.Bytes.{Bytes, bytes}
 use Rattle.read_fields.specs.declared.Cursor.{Cursor}
-use Rattle.read_line.specs.Steps.{kindFrom}
+use Rattle.read_line.specs.StepsModel.{kindFrom}
 use Rattle.read_line.specs.declared.Kind.{Kind}
 use Rattle.read_line.proofs.Letters.{Tried, none, or, listed, by-letter, no-letter}
 use Rattle.read_line.proofs.kind_of.Statement.{statement}

@@ -4,7 +4,7 @@ use mathlib.Core.Path.{_≡_, sym, ap, _∙_}
 use mathlib.Core.Bool.{Bool, true, cond}
 use Prim.Native.Nat.{ℕ}
 use Rattle.spec_text.specs.Bytes.{Bytes}
-use Rattle.read_line.specs.Line.{noLine, lineAt}
+use Rattle.read_line.specs.LineModel.{noLine, lineAt}
 use Rattle.read_line.specs.declared.Line.{Line}
 use Rattle.read_line.proofs.BySteps.{chained}
 use Rattle.read_line.proofs.line_at.Statement.{statement}
@@ -28,9 +28,9 @@ found e =
       sort = s .shape-of .result .sort;
       start = from .span .result .value;
       end = to .span2 .result .value;
-      name = own .own .result .at;
-      len = own .own .result .len;
-      hash = own .own .result .hash;
+      name = own .name-if-due .result .at;
+      len = own .name-if-due .result .len;
+      hash = own .name-if-due .result .hash;
       count0 = a .count .result .value;
       count1 = b .count2 .result .value;
       count2 = c .count3 .result .value;
@@ -53,7 +53,7 @@ line e =
     let from = to .before in
     let s = from .before in
     let k = s .before in
-    chained (given e .0) (given e .1) (k .before .start .ensures) (k .kind-of .ensures) (s .shape-of .ensures) (from .span .ensures) (to .span2 .ensures) (own .own .ensures)
+    chained (given e .0) (given e .1) (k .before .start .ensures) (k .kind-of .ensures) (s .shape-of .ensures) (from .span .ensures) (to .span2 .ensures) (own .name-if-due .ensures)
     (a .count .ensures) (b .count2 .ensures) (c .count3 .ensures) (p .params-of .ensures) (e .line-end .ensures)
 
 returns : tie.Need-returns

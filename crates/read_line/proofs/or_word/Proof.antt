@@ -2,8 +2,8 @@
 use borrow.Author.Needs.{needs}
 use mathlib.Core.Path.{refl}
 use Rattle.spec_text.specs.Bytes.{same}
-use Rattle.read_fields.specs.Fields.{past, takes}
-use Rattle.read_line.specs.Steps.{orWord}
+use Rattle.read_fields.specs.FieldsModel.{past, takes}
+use Rattle.read_line.specs.StepsModel.{orWord}
 use Rattle.read_line.proofs.Letters.{word-taken, word-left}
 use Rattle.read_line.proofs.or_word.Statement.{statement}
 use Rattle.read_line.proofs.or_word.Tie as tie

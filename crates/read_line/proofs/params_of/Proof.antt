@@ -5,7 +5,7 @@ use native.Mathlib.Omega.{arith}
 use mathlib.Core.Path.{_≡_, ap, _∙_}
 use mathlib.Core.Bool.{Bool, false, _&&_, and-false}
 use mathlib.Core.Logic.{⊎-elim}
-use Rattle.read_line.specs.Steps.{paramsFrom}
+use Rattle.read_line.specs.StepsModel.{paramsFrom}
 use Rattle.read_line.proofs.Tail.{Passed, ahead, start, turn, less, out}
 use Rattle.read_line.proofs.params_of.Statement.{statement}
 use Rattle.read_line.proofs.params_of.Tie as tie

@@ -4,7 +4,7 @@ use mathlib.Core.Path.{_≡_, sym, ap, _∙_}
 use Prim.Native.Nat.{ℕ, _≤_}
 use lib.ListN.{List·getD-eq-default}
 use Rattle.spec_text.specs.Lines.{words}
-use Rattle.read_line.specs.Steps.{shapeOf, ofWord, noWord}
+use Rattle.read_line.specs.StepsModel.{shapeOf, ofWord, noWord}
 use Rattle.read_line.specs.declared.Shape.{Shape}
 use Rattle.read_line.proofs.Keys.{beyond}
 use Rattle.read_line.proofs.shape_of.Statement.{statement}

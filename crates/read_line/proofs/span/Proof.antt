@@ -1,6 +1,6 @@
 -- `span` is `spanFrom`: a number where it is due, else none.
 use borrow.Author.Needs.{needs}
-use Rattle.read_line.specs.Steps.{spanFrom}
+use Rattle.read_line.specs.StepsModel.{spanFrom}
 use Rattle.read_line.proofs.span.Statement.{statement}
 use Rattle.read_line.proofs.span.Tie as tie
 

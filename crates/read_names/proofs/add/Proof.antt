@@ -1,6 +1,6 @@
 -- The part, what is found for it, and what is written.
 use borrow.Author.Needs.{needs}
-use Rattle.read_names.proofs.Steps.{add-row}
+use Rattle.read_names.proofs.Turns.{add-row}
 use Rattle.read_names.proofs.add.Statement.{statement}
 use Rattle.read_names.proofs.add.Tie as tie
 

@@ -3,8 +3,8 @@ use Prim.Native.Nat.{_-_}
 use native.Mathlib.Omega.{arith}
 use mathlib.Core.Path.{_≡_, refl, sym, _∙_}
 use lib.ListN.{length, length-set}
-use Rattle.read_names.specs.Chains.{clearedFrom, cleared}
-use Rattle.read_names.proofs.Steps.{clear-turn, clear-done}
+use Rattle.read_names.specs.ChainsModel.{clearedFrom, cleared}
+use Rattle.read_names.proofs.Turns.{clear-turn, clear-done}
 use Rattle.read_names.proofs.clear.Statement.{statement}
 use Rattle.read_names.proofs.clear.Tie as tie
 

@@ -2,7 +2,7 @@
 use mathlib.Core.Path.{sym, _∙_}
 use borrow.Author.Needs.{needs}
 use Rattle.read_names.proofs.Writes.{entered-old}
-use Rattle.read_names.proofs.Steps.{enter-new}
+use Rattle.read_names.proofs.Turns.{enter-new}
 use Rattle.read_names.proofs.enter.Statement.{statement}
 use Rattle.read_names.proofs.enter.Tie as tie
 

@@ -1,19 +1,19 @@
--- The loop's invariant: the walk from c on finds what is to be found.
+-- The loop's invariant: the follow from c on finds what is to be found.
 use Prim.Native.Nat.{_-_, _<_}
 use native.Mathlib.Omega.{arith}
 use mathlib.Core.Path.{_≡_, sym, ap, _∙_}
 use mathlib.Core.Bool.{true, false}
 use borrow.Author.Needs.{needs}
 use Rattle.spec_text.specs.Bytes.{same}
-use Rattle.read_fields.specs.Fields.{fieldAt}
+use Rattle.read_fields.specs.FieldsModel.{fieldAt}
 use Rattle.work_rows.specs.Layout.{offsetAt}
-use Rattle.read_names.specs.Chains.{walk, found}
-use Rattle.read_names.proofs.Steps.{walk-none, walk-has, walk-next}
+use Rattle.read_names.specs.ChainsModel.{follow, found}
+use Rattle.read_names.proofs.Turns.{walk-none, walk-has, walk-next}
 use Rattle.read_names.proofs.find.Statement.{statement}
 use Rattle.read_names.proofs.find.Tie as tie
 
 abbrev Inv-loop : tie.InvT-loop
-Inv-loop text work hash name c₀ c = (walk c text work c name ≡ found text work hash name) × (c < 4_294_967_296)
+Inv-loop text work hash name c₀ c = (follow c text work c name ≡ found text work hash name) × (c < 4_294_967_296)
 
 abbrev μ-loop : tie.MeasureT-loop
 μ-loop text work hash name c₀ c = c
@@ -24,7 +24,7 @@ head-requires c κs = search needs
 loop-holds : tie.Need-loop-holds Inv-loop μ-loop
 loop-holds c =
     let a = c .before .before .before .before .args in
-    (ap (λ k. walk k (a .text .now) (a .work .now) k (a .name .now)) (c .head .ensures .0), c .head .ensures .1)
+    (ap (λ k. follow k (a .text .now) (a .work .now) k (a .name .now)) (c .head .ensures .0), c .head .ensures .1)
 
 sub-j : tie.Need-sub-j Inv-loop μ-loop
 sub-j c = omega arith
@@ -58,7 +58,7 @@ loop-again c =
     let a = l .before .before .before .before .before .args in
     let e : same (fieldAt (a .text .now) (offsetAt (a .work .now) (l .loop .c - 1))) (a .name .now) ≡ false =
     ap (λ k. same (fieldAt (a .text .now) k) (a .name .now)) (sym (o .offset .ensures)) ∙ (sym (n .before .is-field .ensures) ∙ n .if1 .left) in (
-      ap (λ k. walk k (a .text .now) (a .work .now) k (a .name .now)) (c .link .ensures .0)
+      ap (λ k. follow k (a .text .now) (a .work .now) k (a .name .now)) (c .link .ensures .0)
           ∙ (sym (walk-next (a .text .now) (a .work .now) (a .name .now) (l .loop .c) (o .before .loop-test .taken) e) ∙ l .loop .inv .0),
       omega arith,
     )

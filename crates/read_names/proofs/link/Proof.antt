@@ -1,7 +1,7 @@
 -- The three ways of the two tests on what `same` returned.
 use native.Mathlib.Omega.{arith}
 use borrow.Author.Needs.{needs}
-use Rattle.read_names.proofs.Steps.{link-none, link-next, link-over}
+use Rattle.read_names.proofs.Turns.{link-none, link-next, link-over}
 use Rattle.read_names.proofs.link.Statement.{statement}
 use Rattle.read_names.proofs.link.Tie as tie
 

@@ -1,7 +1,7 @@
 -- The three ways of the two tests.
 use mathlib.Core.Logic.{⊎-elim}
 use borrow.Author.Needs.{needs}
-use Rattle.read_names.proofs.Steps.{part-inside, part-far, part-long}
+use Rattle.read_names.proofs.Turns.{part-inside, part-far, part-long}
 use Rattle.read_names.proofs.part.Statement.{statement}
 use Rattle.read_names.proofs.part.Tie as tie
 

@@ -1,8 +1,8 @@
 -- What is found for the name's hash; where the buffer holds names, that is the earliest row.
 use mathlib.Core.Path.{_≡_, _∙_}
 use borrow.Author.Needs.{needs}
-use Rattle.read_names.specs.Chains.{lookup}
-use Rattle.read_names.proofs.Steps.{look-up}
+use Rattle.read_names.specs.ChainsModel.{lookup}
+use Rattle.read_names.proofs.Turns.{look-up}
 use Rattle.read_names.proofs.Theorems.{lookup-earliest}
 use Rattle.read_names.proofs.row_of.Statement.{statement}
 use Rattle.read_names.proofs.row_of.Tie as tie

@@ -5,9 +5,9 @@ use Prim.Native.Nat.{_-_, _≤_}
 use native.Mathlib.Omega.{arith}
 use lib.ListN.{length}
 use borrow.Author.Tests.{not-true, not-false}
-use Rattle.read_fields.specs.Fields.{endOf}
+use Rattle.read_fields.specs.FieldsModel.{endOf}
 use Rattle.read_fields.proofs.Fields.{field-end}
-use Rattle.read_row.proofs.Laws.{field-past, end-more, field-whole}
+use Rattle.read_row.proofs.Loops.{field-past, end-more, field-whole}
 use Rattle.read_row.proofs.field.Statement.{statement}
 use Rattle.read_row.proofs.field.Tie as tie
 

@@ -1,6 +1,6 @@
 -- `lacks_self` looks at the first parameter, if there is one.
 use borrow.Author.Needs.{needs}
-use Rattle.read_row.proofs.Fields.{lacks-other, lacks-any}
+use Rattle.read_row.proofs.FieldsLeft.{lacks-other, lacks-any}
 use Rattle.read_row.proofs.lacks_self.Statement.{statement}
 use Rattle.read_row.proofs.lacks_self.Tie as tie
 

@@ -1,5 +1,5 @@
 -- `line_of_row` is the line at the start of the line that the row's offset is on.
-use Rattle.read_row.specs.Again.{lineOfRow}
+use Rattle.read_row.specs.RowModel.{lineOfRow}
 use borrow.Author.Needs.{needs}
 use Rattle.read_row.proofs.line_of_row.Statement.{statement}
 use Rattle.read_row.proofs.line_of_row.Tie as tie

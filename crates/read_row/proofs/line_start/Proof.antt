@@ -1,8 +1,8 @@
 -- `line_start` goes back to the byte after the last LF. The loop's invariant: from here it is found where it is found from the start.
 use mathlib.Core.Path.{_≡_, refl, sym, _∙_}
 use native.Mathlib.Omega.{arith}
-use Rattle.read_row.specs.Again.{lineStart}
-use Rattle.read_row.proofs.Laws.{start-here, start-before, start-zero}
+use Rattle.read_row.specs.RowModel.{lineStart}
+use Rattle.read_row.proofs.Loops.{start-here, start-before, start-zero}
 use Rattle.read_row.proofs.line_start.Statement.{statement}
 use Rattle.read_row.proofs.line_start.Tie as tie
 

@@ -10,8 +10,8 @@ use lib.ListN.{length}
 use borrow.Author.Needs.{needs}
 use borrow.Author.Tests.{eq-eqb, ne-eqb}
 use Rattle.spec_text.specs.Bytes.{Bytes}
-use Rattle.read_fields.specs.Fields.{startAt}
-use Rattle.read_row.proofs.Fields.{Left, left-start, left-more, left-past, left-none, left-all, end-inside}
+use Rattle.read_fields.specs.FieldsModel.{startAt}
+use Rattle.read_row.proofs.FieldsLeft.{Left, left-start, left-more, left-past, left-none, left-all, end-inside}
 use Rattle.read_row.proofs.params.Statement.{statement}
 use Rattle.read_row.proofs.params.Tie as tie
 

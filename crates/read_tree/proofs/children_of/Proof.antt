@@ -7,10 +7,10 @@ use lib.ListN.{getD, List·getD-eq-default}
 use borrow.Author.Needs.{needs}
 use Rattle.spec_text.specs.Lines.{Word, words}
 use Rattle.read_tree.specs.declared.Children.{Children}
-use Rattle.read_tree.specs.Agenda.{childrenOf}
-use Rattle.read_line.specs.Steps.{noWord}
-use Rattle.read_tree.specs.Machine.{childrenBy}
-use Rattle.read_tree.proofs.Laws.{From, within}
+use Rattle.read_tree.specs.AgendaModel.{childrenOf}
+use Rattle.read_line.specs.StepsModel.{noWord}
+use Rattle.read_tree.specs.MachineModel.{childrenBy}
+use Rattle.read_tree.proofs.FirstTest.{From, within}
 use Rattle.read_tree.proofs.children_of.Statement.{statement}
 use Rattle.read_tree.proofs.children_of.Tie as tie
 

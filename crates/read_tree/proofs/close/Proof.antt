@@ -1,6 +1,6 @@
 -- One number is written, of the row's kind and the rows after it.
 use mathlib.Core.Path.{_∙_}
-use Rattle.read_tree.specs.Machine.{rowClosed}
+use Rattle.read_tree.specs.MachineModel.{rowClosed}
 use borrow.Author.Needs.{needs}
 use Rattle.read_tree.proofs.close.Statement.{statement}
 use Rattle.read_tree.proofs.close.Tie as tie

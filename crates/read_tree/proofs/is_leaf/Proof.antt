@@ -1,6 +1,6 @@
 -- The sum is 0 exactly where the test says so.
 use borrow.Author.Needs.{needs}
-use Rattle.read_tree.specs.Machine.{isLeaf}
+use Rattle.read_tree.specs.MachineModel.{isLeaf}
 use Rattle.read_tree.proofs.is_leaf.Statement.{statement}
 use Rattle.read_tree.proofs.is_leaf.Tie as tie
 

@@ -1,5 +1,5 @@
 -- The line and its refusal.
-use Rattle.read_tree.specs.Machine.{dueAt}
+use Rattle.read_tree.specs.MachineModel.{dueAt}
 use Rattle.read_tree.proofs.line_due.Statement.{statement}
 use Rattle.read_tree.proofs.line_due.Tie as tie
 

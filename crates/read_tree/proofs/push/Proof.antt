@@ -4,8 +4,8 @@ use Prim.Native.Nat.{ℕ, _+_}
 use mathlib.Core.Path.{refl, ap}
 use mathlib.Core.List.{List}
 use borrow.Author.Tests.{eq-eqb, ne-eqb}
-use Rattle.read_tree.specs.Machine.{stack, pushed}
-use Rattle.read_tree.proofs.Laws.{holds, fails}
+use Rattle.read_tree.specs.MachineModel.{stack, pushed}
+use Rattle.read_tree.proofs.FirstTest.{holds, fails}
 use borrow.Author.Needs.{needs}
 use Rattle.read_tree.proofs.push.Statement.{statement}
 use Rattle.read_tree.proofs.push.Tie as tie

@@ -1,6 +1,6 @@
 -- Seven pushes, each on what the one before leaves.
 use native.Mathlib.Omega.{arith}
-use Rattle.read_tree.proofs.Steps.{below-by}
+use Rattle.read_tree.proofs.InNumbers.{below-by}
 use borrow.Author.Needs.{needs}
 use Rattle.read_tree.proofs.push_below.Statement.{statement}
 use Rattle.read_tree.proofs.push_below.Tie as tie

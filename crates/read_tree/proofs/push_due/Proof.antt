@@ -2,8 +2,8 @@
 use native.Mathlib.Omega.{arith}
 use mathlib.Core.Path.{refl, sym, _∙_}
 use borrow.Author.Needs.{needs}
-use Rattle.read_tree.specs.Machine.{pushedDue}
-use Rattle.read_tree.proofs.Laws.{holds, fails}
+use Rattle.read_tree.specs.MachineModel.{pushedDue}
+use Rattle.read_tree.proofs.FirstTest.{holds, fails}
 use Rattle.read_tree.proofs.push_due.Statement.{statement}
 use Rattle.read_tree.proofs.push_due.Tie as tie
 

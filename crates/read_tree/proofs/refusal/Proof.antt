@@ -5,8 +5,8 @@ use mathlib.Core.Bool.{cond, not}
 use lib.Dec.{eqb}
 use borrow.Author.Needs.{needs}
 use borrow.Author.Tests.{eq-eqb, ne-eqb, lt-ltb, le-ltb}
-use Rattle.read_tree.specs.Machine.{refusalOf}
-use Rattle.read_tree.proofs.Laws.{holds, fails}
+use Rattle.read_tree.specs.MachineModel.{refusalOf}
+use Rattle.read_tree.proofs.FirstTest.{holds, fails}
 use Rattle.read_tree.proofs.refusal.Statement.{statement}
 use Rattle.read_tree.proofs.refusal.Tie as tie
 

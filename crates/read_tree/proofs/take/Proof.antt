@@ -2,7 +2,7 @@
 use Prim.Native.Nat.{_+_}
 use native.Mathlib.Omega.{arith}
 use borrow.Author.Needs.{needs}
-use Rattle.read_tree.proofs.Steps.{take-stops, take-goes}
+use Rattle.read_tree.proofs.InNumbers.{take-stops, take-goes}
 use Rattle.read_tree.proofs.Bounds.{Fresh, fresh-due, few-below, stop-bounded, on-bounded}
 use Rattle.read_tree.proofs.take.Statement.{statement}
 use Rattle.read_tree.proofs.take.Tie as tie

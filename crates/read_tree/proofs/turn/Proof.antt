@@ -1,7 +1,7 @@
 -- The entry on top closes a row, or a line is due by it.
 use native.Mathlib.Omega.{arith}
 use borrow.Author.Needs.{needs}
-use Rattle.read_tree.proofs.Steps.{turn-closes, turn-takes}
+use Rattle.read_tree.proofs.InNumbers.{turn-closes, turn-takes}
 use Rattle.read_tree.proofs.Bounds.{close-bounded}
 use Rattle.read_tree.proofs.turn.Statement.{statement}
 use Rattle.read_tree.proofs.turn.Tie as tie

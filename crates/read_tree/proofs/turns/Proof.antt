@@ -1,8 +1,8 @@
 -- The invariant: the bounds hold, and where turns lead from the start they lead from here. Less is left after each turn.
 use mathlib.Core.Path.{_≡_, refl, sym, subst, _∙_}
 use lib.ListN.{length}
-use Rattle.read_tree.specs.Machine.{Machine, machine, Turns, Bounded, left}
-use Rattle.read_tree.proofs.Steps.{later, at-end}
+use Rattle.read_tree.specs.MachineModel.{Machine, machine, Turns, Bounded, left}
+use Rattle.read_tree.proofs.InNumbers.{later, at-end}
 use Rattle.read_tree.proofs.turns.Statement.{statement}
 use Rattle.read_tree.proofs.turns.Tie as tie
 

@@ -1,7 +1,7 @@
 -- The row's first number, and then its name or where its line starts.
 use native.Mathlib.Omega.{arith}
 use borrow.Author.Needs.{needs}
-use Rattle.read_tree.proofs.Steps.{row-placed, row-named}
+use Rattle.read_tree.proofs.InNumbers.{row-placed, row-named}
 use Rattle.read_tree.proofs.write_row.Statement.{statement}
 use Rattle.read_tree.proofs.write_row.Tie as tie
 

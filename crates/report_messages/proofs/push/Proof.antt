@@ -1,4 +1,4 @@
--- One byte after the other. The loop's invariant: what is left to push, pushed here, is what all of it was from the start.
+-- One byte after the other. The loop's invariant: what is left to push, bytesPushed here, is what all of it was from the start.
 use Prim.Native.Nat.{_+_, _-_, _≤_}
 use native.Mathlib.Numerals.{add-one}
 use native.Mathlib.Omega.{arith}
@@ -8,7 +8,7 @@ use lib.Seq.{drop-cons}
 use lib.ListN.{length, getD, drop, length-set, drop-of-length-le}
 use mathlib.Core.List.{_∷_}
 use borrow.Author.Needs.{needs}
-use Rattle.report_messages.specs.Messages.{pushed, pushedTo}
+use Rattle.report_messages.specs.MessagesModel.{bytesPushed, pushedTo}
 use Rattle.report_messages.proofs.Pushed.{pushed-none, to-none, pushed-full, to-full, pushed-one, to-one}
 use Rattle.report_messages.proofs.push.Statement.{statement}
 use Rattle.report_messages.proofs.push.Tie as tie
@@ -18,7 +18,7 @@ Inv-loop out₀ at bytes i₀ to₀ out i to =
     (i ≤ length bytes)
     × (to ≤ length out)
     × (length out ≡ length out₀)
-    × (pushed out₀ at bytes ≡ pushed out to (drop i bytes))
+    × (bytesPushed out₀ at bytes ≡ bytesPushed out to (drop i bytes))
     × (pushedTo out₀ at bytes ≡ pushedTo out to (drop i bytes))
 
 abbrev μ-loop : tie.MeasureT-loop
@@ -52,7 +52,7 @@ loop-again c =
       omega arith,
       omega (arith, length-set (l .loop .out) (l .loop .to) (getD bs (l .loop .i) 0), room),
       length-set (l .loop .out) (l .loop .to) (getD bs (l .loop .i) 0) ∙ l .loop .inv .2,
-      l .loop .inv .3 ∙ ap (pushed (l .loop .out) (l .loop .to)) e ∙ pushed-one (l .loop .out) (l .loop .to) room (getD bs (l .loop .i) 0) (drop (l .loop .i + 1) bs),
+      l .loop .inv .3 ∙ ap (bytesPushed (l .loop .out) (l .loop .to)) e ∙ pushed-one (l .loop .out) (l .loop .to) room (getD bs (l .loop .i) 0) (drop (l .loop .i + 1) bs),
       l .loop .inv .4 ∙ ap (pushedTo (l .loop .out) (l .loop .to)) e ∙ to-one (l .loop .out) (l .loop .to) room (getD bs (l .loop .i) 0) (drop (l .loop .i + 1) bs),
     )
 
@@ -77,7 +77,7 @@ returns-2 c =
     let l = c .before in
     let a = l .before .args in
     let e = drop-of-length-le (a .bytes .now) {i = l .loop .i} (omega arith) in (
-      sym (l .loop .inv .3 ∙ ap (pushed (l .loop .out) (l .loop .to)) e ∙ pushed-none (l .loop .out) (l .loop .to)),
+      sym (l .loop .inv .3 ∙ ap (bytesPushed (l .loop .out) (l .loop .to)) e ∙ pushed-none (l .loop .out) (l .loop .to)),
       sym (l .loop .inv .4 ∙ ap (pushedTo (l .loop .out) (l .loop .to)) e ∙ to-none (l .loop .out) (l .loop .to)),
       l .loop .inv .1,
     )

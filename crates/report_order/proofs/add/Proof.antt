@@ -1,7 +1,7 @@
 -- One number is written.
 use mathlib.Core.Path.{refl}
 use borrow.Author.Needs.{needs}
-use Rattle.report_order.specs.Listing.{stored}
+use Rattle.report_order.specs.OrderModel.{stored}
 use Rattle.report_order.proofs.add.Statement.{statement}
 use Rattle.report_order.proofs.add.Tie as tie
 

@@ -4,9 +4,9 @@ use native.Mathlib.Omega.{arith}
 use mathlib.Core.Path.{_≡_, refl, ap, _∙_}
 use lib.ListN.{length}
 use Rattle.report_order.specs.declared.Around.{Around}
-use Rattle.report_order.specs.Listing.{entriesFrom, entries}
+use Rattle.report_order.specs.OrderModel.{entriesFrom, entries}
 use Rattle.report_order.proofs.Stored.{Left, left-all}
-use Rattle.report_order.proofs.Steps.{class-few, placed-few, entries-more, entries-end}
+use Rattle.report_order.proofs.AtRow.{class-few, placed-few, entries-more, entries-end}
 use Rattle.report_order.proofs.list.Statement.{statement}
 use Rattle.report_order.proofs.list.Tie as tie
 

@@ -5,8 +5,8 @@ use mathlib.Core.Bool.{Bool, _||_}
 use mathlib.Core.List.{[]}
 use lib.Dec.{eqb}
 use borrow.Author.Needs.{needs}
-use Rattle.report_order.specs.Listing.{entry, called}
-use Rattle.report_order.proofs.Steps.{tested-one, tested-not, one-written, none-written}
+use Rattle.report_order.specs.OrderModel.{entry, called}
+use Rattle.report_order.proofs.AtRow.{tested-one, tested-not, one-written, none-written}
 use Rattle.report_order.proofs.list_called.Statement.{statement}
 use Rattle.report_order.proofs.list_called.Tie as tie
 

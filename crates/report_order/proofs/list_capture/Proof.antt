@@ -3,8 +3,8 @@ use mathlib.Core.Path.{sym, _∙_}
 use mathlib.Core.List.{[]}
 use borrow.Author.Needs.{needs}
 use Rattle.spec_faults.specs.Faults.{capture}
-use Rattle.report_order.specs.Listing.{entry, captured}
-use Rattle.report_order.proofs.Steps.{tested-one, tested-not, one-written, none-written}
+use Rattle.report_order.specs.OrderModel.{entry, captured}
+use Rattle.report_order.proofs.AtRow.{tested-one, tested-not, one-written, none-written}
 use Rattle.report_order.proofs.list_capture.Statement.{statement}
 use Rattle.report_order.proofs.list_capture.Tie as tie
 

@@ -3,9 +3,9 @@ use Prim.Native.Nat.{_+_, _-_, _≤_}
 use native.Mathlib.Omega.{arith}
 use mathlib.Core.Path.{_≡_, refl, _∙_}
 use lib.ListN.{length}
-use Rattle.report_order.specs.Listing.{captures}
+use Rattle.report_order.specs.OrderModel.{captures}
 use Rattle.report_order.proofs.Stored.{Left, left-all}
-use Rattle.report_order.proofs.Steps.{captures-more, captures-end, captured-few}
+use Rattle.report_order.proofs.AtRow.{captures-more, captures-end, captured-few}
 use Rattle.report_order.proofs.list_captures.Statement.{statement}
 use Rattle.report_order.proofs.list_captures.Tie as tie
 

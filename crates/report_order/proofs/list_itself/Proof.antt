@@ -5,8 +5,8 @@ use mathlib.Core.Bool.{Bool, _||_}
 use lib.Dec.{eqb}
 use borrow.Author.Needs.{needs}
 use borrow.Author.Tests.{ne-eqb}
-use Rattle.report_order.specs.Listing.{entry, itself}
-use Rattle.report_order.proofs.Steps.{tested-one, tested-not, one-written, none-written}
+use Rattle.report_order.specs.OrderModel.{entry, itself}
+use Rattle.report_order.proofs.AtRow.{tested-one, tested-not, one-written, none-written}
 use Rattle.report_order.proofs.list_itself.Statement.{statement}
 use Rattle.report_order.proofs.list_itself.Tie as tie
 
@@ -19,8 +19,8 @@ method k = eqb k 15
 slot-in-requires : tie.Need-slot-in-requires
 slot-in-requires c κs = search needs
 
-is-own-requires : tie.Need-is-own-requires
-is-own-requires c κs = search needs
+is-its-own-place-requires : tie.Need-is-its-own-place-requires
+is-its-own-place-requires c κs = search needs
 
 add-requires : tie.Need-add-requires
 add-requires c κs = search needs
@@ -37,7 +37,7 @@ returns c =
     let s = k .before in
     let a = s .before .before .before .args in
     one-written (entry (s .slot-in .result) (a .p) (a .p)) (a .count) (a .work .now)
-    (tested-one own (a .p) (a .p) _ (s .slot-in .ensures .0) (sym (k .is-own .ensures) ∙ t .if1 .taken)) (d .add .ensures)
+    (tested-one own (a .p) (a .p) _ (s .slot-in .ensures .0) (sym (k .is-its-own-place .ensures) ∙ t .if1 .taken)) (d .add .ensures)
 
 add-requires-2 : tie.Need-add-requires-2
 add-requires-2 c κs = search needs
@@ -55,7 +55,7 @@ returns-2 c =
     let s = k .before in
     let a = s .before .before .before .args in
     one-written (entry 15 (a .class) (a .p)) (a .count) (a .work .now)
-    (tested-not own _ _ (s .slot-in .ensures .0) (sym (k .is-own .ensures) ∙ f .if1 .left) ∙ rw (← s .slot-in .ensures .0, t .if2 .taken)) (d .add2 .ensures)
+    (tested-not own _ _ (s .slot-in .ensures .0) (sym (k .is-its-own-place .ensures) ∙ f .if1 .left) ∙ rw (← s .slot-in .ensures .0, t .if2 .taken)) (d .add2 .ensures)
 
 same-length-3 : tie.Need-same-length-3
 same-length-3 c = search needs
@@ -68,7 +68,7 @@ returns-3 c =
     let s = k .before in
     let a = s .before .before .before .args in
     none-written (a .count) (a .work .now)
-    (tested-not own _ _ (s .slot-in .ensures .0) (sym (k .is-own .ensures) ∙ f .if1 .left)
+    (tested-not own _ _ (s .slot-in .ensures .0) (sym (k .is-its-own-place .ensures) ∙ f .if1 .left)
     ∙ tested-not method _ _ (s .slot-in .ensures .0) (ne-eqb (s .slot-in .result) 15 (c .if2 .left)))
 
 pub list-itself-spec : {M : Type 1} → statement M
@@ -76,7 +76,7 @@ list-itself-spec =
     tie.close
     (tie.spec
     slot-in-requires
-    is-own-requires
+    is-its-own-place-requires
     add-requires
     same-length
     returns

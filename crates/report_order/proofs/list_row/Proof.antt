@@ -4,7 +4,7 @@ use mathlib.Core.Path.{_≡_, sym, _∙_}
 use borrow.Author.Needs.{needs}
 use borrow.Author.Tests.{eq-eqb, ne-eqb}
 use Rattle.work_rows.specs.Layout.{kindAt}
-use Rattle.report_order.proofs.Steps.{taken, not-past, other, itself-few, row-none, row-call, row-lambda}
+use Rattle.report_order.proofs.AtRow.{taken, not-past, other, itself-few, row-none, row-call, row-lambda}
 use Rattle.report_order.proofs.list_row.Statement.{statement}
 use Rattle.report_order.proofs.list_row.Tie as tie
 

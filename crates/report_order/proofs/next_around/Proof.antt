@@ -5,7 +5,7 @@ use mathlib.Core.Path.{_≡_, sym, ap, _∙_}
 use borrow.Author.Needs.{needs}
 use Rattle.work_rows.specs.Layout.{kindAt}
 use Rattle.report_order.specs.declared.Around.{Around}
-use Rattle.report_order.proofs.Steps.{taken, not-past, other, around-by}
+use Rattle.report_order.proofs.AtRow.{taken, not-past, other, around-by}
 use Rattle.report_order.proofs.next_around.Statement.{statement}
 use Rattle.report_order.proofs.next_around.Tie as tie
 

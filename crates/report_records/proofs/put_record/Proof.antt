@@ -1,6 +1,6 @@
 -- The stores one after the other.
 use borrow.Author.Needs.{needs}
-use Rattle.report_records.proofs.Laws.{put-seven}
+use Rattle.report_records.proofs.SevenStores.{put-seven}
 use Rattle.report_records.proofs.put_record.Statement.{statement}
 use Rattle.report_records.proofs.put_record.Tie as tie
 

@@ -1,6 +1,6 @@
 -- The lines of the two rows, and what is picked from them.
 use borrow.Author.Needs.{needs}
-use Rattle.report_records.specs.Records.{recordOf}
+use Rattle.report_records.specs.RecordsModel.{recordOf}
 use Rattle.report_records.proofs.record_of.Statement.{statement}
 use Rattle.report_records.proofs.record_of.Tie as tie
 

@@ -2,8 +2,8 @@
 use mathlib.Core.Path.{ap, _∙_}
 use borrow.Author.Needs.{needs}
 use Rattle.spec_answers.specs.Answers.{faulty, checkOf}
-use Rattle.report_records.specs.Records.{numbers}
-use Rattle.serduzhap.proofs.Answers.{check-accepted, check-faulty, refused}
+use Rattle.report_records.specs.RecordsModel.{numbers}
+use Rattle.serduzhap.proofs.Cases.{check-accepted, check-faulty, refused}
 use Rattle.serduzhap.proofs.check.Statement.{statement}
 use Rattle.serduzhap.proofs.check.Tie as tie
 

@@ -4,9 +4,9 @@ use native.Mathlib.Omega.{arith}
 use lib.ListN.{length}
 use borrow.Author.Needs.{needs}
 use Rattle.spec_answers.specs.Answers.{wroteIf, messageIn, messageOut}
-use Rattle.report_messages.specs.Messages.{messageOf}
+use Rattle.report_messages.specs.MessagesModel.{recordMessage}
 use Rattle.serduzhap.specs.Calls.{messageSays}
-use Rattle.serduzhap.proofs.Answers.{few, message-none, message-some, refused}
+use Rattle.serduzhap.proofs.Cases.{few, message-none, message-some, refused}
 use Rattle.serduzhap.proofs.message.Statement.{statement}
 use Rattle.serduzhap.proofs.message.Tie as tie
 
@@ -57,7 +57,7 @@ returns-2 c =
     let a = f .before .before .before .before .before .args in
     let o = a .out .now in
     let e =
-    ap (λ x. wroteIf (length o) (messageOf (a .text .now) x)) (r .record-at .ensures)
+    ap (λ x. wroteIf (length o) (recordMessage (a .text .now) x)) (r .record-at .ensures)
     ∙ message-some (f .find .ensures) (k .count .given .1) (a .i) (i .if1 .left) (length o) in
     (m .write-message .ensures .0 ∙ ap messageSays e, m .write-message .ensures .1 ∙ ap (λ x. messageOut x o) e)
 

@@ -5,7 +5,7 @@ use borrow.Author.Needs.{needs}
 use Rattle.spec_answers.specs.Answers.{nameIn}
 use Rattle.spec_text.specs.Reading.{reading}
 use lib.ListN.{length}
-use Rattle.serduzhap.proofs.Answers.{few, Names, name-none, name-some, name-refused}
+use Rattle.serduzhap.proofs.Cases.{few, Names, name-none, name-some, name-refused}
 use Rattle.serduzhap.proofs.name_part.Statement.{statement}
 use Rattle.serduzhap.proofs.name_part.Tie as tie
 

@@ -5,7 +5,7 @@ use lib.ListN.{length}
 use borrow.Author.Needs.{needs}
 use Rattle.spec_answers.specs.Answers.{reportOf, reportOut}
 use Rattle.serduzhap.specs.Calls.{reportSays}
-use Rattle.serduzhap.proofs.Answers.{few, report-short, report-written, refused}
+use Rattle.serduzhap.proofs.Cases.{few, report-short, report-written, refused}
 use Rattle.serduzhap.proofs.report.Statement.{statement}
 use Rattle.serduzhap.proofs.report.Tie as tie
 

@@ -6,7 +6,7 @@ use lib.ListN.{length}
 use borrow.Author.Needs.{needs}
 use Rattle.spec_answers.specs.Answers.{over}
 use Rattle.serduzhap.specs.Calls.{recordsOf}
-use Rattle.serduzhap.proofs.Writes.{turn}
+use Rattle.serduzhap.proofs.Over.{turn}
 use Rattle.serduzhap.proofs.write.Statement.{statement}
 use Rattle.serduzhap.proofs.write.Tie as tie
 

@@ -1,8 +1,8 @@
 -- The two ways: a message that is longer than the output, and one that is written.
 use mathlib.Core.Path.{_∙_}
 use borrow.Author.Needs.{needs}
-use Rattle.report_messages.specs.Messages.{messageOf}
-use Rattle.serduzhap.proofs.Writes.{too-long, fits}
+use Rattle.report_messages.specs.MessagesModel.{recordMessage}
+use Rattle.serduzhap.proofs.Over.{too-long, fits}
 use Rattle.serduzhap.proofs.write_message.Statement.{statement}
 use Rattle.serduzhap.proofs.write_message.Tie as tie
 
@@ -13,7 +13,7 @@ returns : tie.Need-returns
 returns c =
     let l = c .before in
     let a = l .before .before .before .args in
-    too-long (messageOf (a .text .now) (a .r)) (a .out .now) (l .message-len .ensures) (c .if1 .taken)
+    too-long (recordMessage (a .text .now) (a .r)) (a .out .now) (l .message-len .ensures) (c .if1 .taken)
 
 push-message-requires : tie.Need-push-message-requires
 push-message-requires c κs = search needs
@@ -27,7 +27,7 @@ returns-2 c =
     let i = p .before .before in
     let l = i .before in
     let a = l .before .before .before .args in
-    let s = fits (messageOf (a .text .now) (a .r)) (a .out .now) (l .message-len .ensures) (i .if1 .left) in
+    let s = fits (recordMessage (a .text .now) (a .r)) (a .out .now) (l .message-len .ensures) (i .if1 .left) in
     (s .0, p .push-message .ensures .0 ∙ s .1)
 
 pub write-message-spec : {M : Type 1} → statement M

@@ -1,7 +1,7 @@
 -- What `message` promises, its answer in numbers; what it writes is as it is.
 use lib.ListN.{length}
 use borrow.Author.Needs.{needs}
-use Rattle.serduzhap_c.proofs.Answers.{message-in}
+use Rattle.serduzhap_c.proofs.Cases.{message-in}
 use Rattle.serduzhap_c.proofs.serduzhap_message.Statement.{statement}
 use Rattle.serduzhap_c.proofs.serduzhap_message.Tie as tie
 

@@ -1,7 +1,7 @@
 -- What `report` promises, its answer in numbers; what it writes is as it is.
 use lib.ListN.{length}
 use borrow.Author.Needs.{needs}
-use Rattle.serduzhap_c.proofs.Answers.{report-in}
+use Rattle.serduzhap_c.proofs.Cases.{report-in}
 use Rattle.serduzhap_c.proofs.serduzhap_report.Statement.{statement}
 use Rattle.serduzhap_c.proofs.serduzhap_report.Tie as tie
 

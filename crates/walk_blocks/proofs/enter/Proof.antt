@@ -6,10 +6,10 @@ use mathlib.Core.Path.{_≡_, refl, sym, ap, subst, _∙_}
 use mathlib.Core.Bool.{true}
 use lib.ListN.{length}
 use Rattle.read_fields.specs.declared.Cursor.{Cursor}
-use Rattle.read_row.specs.Again.{partsFrom, paramsOf}
-use Rattle.read_row.proofs.Fields.{end-inside, next-inside}
-use Rattle.walk_blocks.specs.Blocks.{entered}
-use Rattle.walk_blocks.proofs.Laws.{params-turn, params-end}
+use Rattle.read_row.specs.RowModel.{partsFrom, paramsOf}
+use Rattle.read_row.proofs.FieldsLeft.{end-inside, next-inside}
+use Rattle.walk_blocks.specs.BlocksModel.{entered}
+use Rattle.walk_blocks.proofs.Ways.{params-turn, params-end}
 use Rattle.walk_blocks.proofs.enter.Statement.{statement}
 use Rattle.walk_blocks.proofs.enter.Tie as tie
 

@@ -1,7 +1,7 @@
 -- The parameter is bound, and noted where own names are.
 use mathlib.Core.Path.{sym, _∙_}
 use borrow.Author.Needs.{needs}
-use Rattle.walk_blocks.proofs.Laws.{one-owned, one-plain}
+use Rattle.walk_blocks.proofs.Ways.{one-owned, one-plain}
 use Rattle.walk_blocks.proofs.enter_one.Statement.{statement}
 use Rattle.walk_blocks.proofs.enter_one.Tie as tie
 

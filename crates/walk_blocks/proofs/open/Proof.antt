@@ -1,7 +1,7 @@
 -- The parameters are bound, and the own names noted where there are any.
 use mathlib.Core.Path.{sym, _∙_}
 use borrow.Author.Needs.{needs}
-use Rattle.walk_blocks.proofs.Laws.{open-owned, open-plain}
+use Rattle.walk_blocks.proofs.Ways.{open-owned, open-plain}
 use Rattle.walk_blocks.proofs.open.Statement.{statement}
 use Rattle.walk_blocks.proofs.open.Tie as tie
 

@@ -1,6 +1,6 @@
 -- The test for a def.
 use borrow.Author.Needs.{needs}
-use Rattle.walk_blocks.proofs.Laws.{reopen-def, reopen-plain}
+use Rattle.walk_blocks.proofs.Ways.{reopen-def, reopen-plain}
 use Rattle.walk_blocks.proofs.reopen.Statement.{statement}
 use Rattle.walk_blocks.proofs.reopen.Tie as tie
 

@@ -1,11 +1,11 @@
--- `walk_builtins::find_in` meets its contract. The loop's invariant: the place is k more than the place among the names that are left, which start
+-- `walk_builtins::find_in` meets its contract. The loop's invariant: the placeAmong is k more than the placeAmong among the names that are left, which start
 -- at the byte at.
 use native.Mathlib.Omega.{arith}
 use mathlib.Core.Path.{_≡_, sym, _∙_}
 use Prim.Native.Nat.{_+_, _-_, _≤_}
 use lib.ListN.{length, drop}
-use Rattle.walk_builtins.specs.Table.{place, cutBy, total}
-use Rattle.walk_builtins.proofs.Laws.{total-turn, place-here, place-past, place-end}
+use Rattle.walk_builtins.specs.Table.{placeAmong, cutBy, total}
+use Rattle.walk_builtins.proofs.Search.{total-turn, place-here, place-past, place-end}
 use Rattle.walk_builtins.proofs.find_in.Statement.{statement}
 use Rattle.walk_builtins.proofs.find_in.Tie as tie
 
@@ -13,7 +13,7 @@ abbrev Inv-loop : tie.InvT-loop
 Inv-loop bytes lengths name at₀ k₀ at k =
     (k ≤ length lengths)
     × (at + total (drop k lengths) ≤ length bytes)
-    × (place name (cutBy lengths bytes) ≡ k + place name (cutBy (drop k lengths) (drop at bytes)))
+    × (placeAmong name (cutBy lengths bytes) ≡ k + placeAmong name (cutBy (drop k lengths) (drop at bytes)))
 
 abbrev μ-loop : tie.MeasureT-loop
 μ-loop bytes lengths name at₀ k₀ at k = length lengths - k

@@ -1,6 +1,6 @@
 -- `walk_builtins::is_builtin` meets its contract: a name has a number below the number of names exactly when it is one of them.
 use Rattle.spec_faults.specs.Builtins.{builtinNames}
-use Rattle.walk_builtins.proofs.Laws.{place-mem}
+use Rattle.walk_builtins.proofs.Search.{place-mem}
 use Rattle.walk_builtins.proofs.is_builtin.Statement.{statement}
 use Rattle.walk_builtins.proofs.is_builtin.Tie as tie
 

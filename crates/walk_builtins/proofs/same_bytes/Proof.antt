@@ -4,7 +4,7 @@ use mathlib.Core.Path.{_≡_, refl, sym, _∙_}
 use Prim.Native.Nat.{_≤_, _-_}
 use lib.ListN.{length, drop}
 use Rattle.spec_text.specs.Bytes.{same}
-use Rattle.walk_builtins.proofs.Laws.{same-lengths, same-past, same-not, same-end}
+use Rattle.walk_builtins.proofs.Search.{same-lengths, same-past, same-not, same-end}
 use Rattle.walk_builtins.proofs.same_bytes.Statement.{statement}
 use Rattle.walk_builtins.proofs.same_bytes.Tie as tie
 

@@ -2,7 +2,7 @@
 use mathlib.Core.Path.{ap, _∙_}
 use borrow.Author.Needs.{needs}
 use Rattle.walk_builtins.specs.Table.{names}
-use Rattle.walk_given.specs.Given.{given, globalsFrom, begun}
+use Rattle.walk_given.specs.GivenModel.{given, globalsFrom, begun}
 use Rattle.walk_given.proofs.begin.Statement.{statement}
 use Rattle.walk_given.proofs.begin.Tie as tie
 

@@ -4,8 +4,8 @@ use native.Mathlib.Nat.{sub-zero}
 use native.Mathlib.Omega.{arith}
 use mathlib.Core.Path.{_≡_, refl, sym, ap, _∙_}
 use lib.ListN.{length}
-use Rattle.walk_given.specs.Given.{fresh}
-use Rattle.walk_given.proofs.Laws.{fresh-more, fresh-end}
+use Rattle.walk_given.specs.GivenModel.{fresh}
+use Rattle.walk_given.proofs.Loops.{fresh-more, fresh-end}
 use Rattle.walk_given.proofs.clear.Statement.{statement}
 use Rattle.walk_given.proofs.clear.Tie as tie
 

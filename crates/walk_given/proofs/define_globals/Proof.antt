@@ -4,8 +4,8 @@ use native.Mathlib.Nat.{sub-zero}
 use native.Mathlib.Omega.{arith}
 use mathlib.Core.Path.{_≡_, refl, sym, ap, _∙_}
 use lib.ListN.{length}
-use Rattle.walk_given.specs.Given.{globalsFrom}
-use Rattle.walk_given.proofs.Laws.{globals-more, globals-end}
+use Rattle.walk_given.specs.GivenModel.{globalsFrom}
+use Rattle.walk_given.proofs.Loops.{globals-more, globals-end}
 use Rattle.walk_given.proofs.define_globals.Statement.{statement}
 use Rattle.walk_given.proofs.define_globals.Tie as tie
 

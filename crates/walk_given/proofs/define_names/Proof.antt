@@ -4,9 +4,9 @@ use native.Mathlib.Omega.{arith}
 use mathlib.Core.Path.{_≡_, refl, sym, ap, _∙_}
 use lib.ListN.{length, drop}
 use Rattle.walk_builtins.specs.Table.{cutBy, total}
-use Rattle.walk_builtins.proofs.Laws.{total-turn}
-use Rattle.walk_given.specs.Given.{given}
-use Rattle.walk_given.proofs.Laws.{given-more, given-end}
+use Rattle.walk_builtins.proofs.Search.{total-turn}
+use Rattle.walk_given.specs.GivenModel.{given}
+use Rattle.walk_given.proofs.Loops.{given-more, given-end}
 use Rattle.walk_given.proofs.define_names.Statement.{statement}
 use Rattle.walk_given.proofs.define_names.Tie as tie
 

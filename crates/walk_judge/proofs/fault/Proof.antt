@@ -3,8 +3,8 @@ use mathlib.Core.Path.{sym, ap, _∙_}
 use mathlib.Core.Logic.{⊎-elim}
 use borrow.Author.Needs.{needs}
 use borrow.Author.Tests.{eq-eqb, ne-eqb}
-use Rattle.work_marks.specs.Marks.{raisedLambda}
-use Rattle.walk_judge.proofs.Laws.{faulted-blames, faulted-plain}
+use Rattle.work_marks.specs.MarksModel.{raisedLambda}
+use Rattle.walk_judge.proofs.Ways.{faulted-blames, faulted-plain}
 use Rattle.walk_judge.proofs.fault.Statement.{statement}
 use Rattle.walk_judge.proofs.fault.Tie as tie
 

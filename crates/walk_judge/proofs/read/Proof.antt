@@ -5,7 +5,7 @@ use mathlib.Core.Bool.{true, false}
 use mathlib.Core.Logic.{⊎-elim}
 use lib.ListN.{length}
 use borrow.Author.Needs.{needs}
-use Rattle.walk_judge.proofs.Laws.{own-by, own-not, read-param, read-unbound, read-own, read-in-view, read-undefined}
+use Rattle.walk_judge.proofs.Ways.{own-by, own-not, read-param, read-unbound, read-own, read-in-view, read-undefined}
 use Rattle.walk_judge.proofs.read.Statement.{statement}
 use Rattle.walk_judge.proofs.read.Tie as tie
 

@@ -1,7 +1,7 @@
 -- The kind by the two tests.
 use mathlib.Core.Path.{sym, ap, _∙_}
 use mathlib.Core.Bool.{cond}
-use Rattle.walk_judge.proofs.Laws.{unbound-lambda, unbound-plain}
+use Rattle.walk_judge.proofs.Ways.{unbound-lambda, unbound-plain}
 use Rattle.walk_judge.proofs.unbound_kind.Statement.{statement}
 use Rattle.walk_judge.proofs.unbound_kind.Tie as tie
 

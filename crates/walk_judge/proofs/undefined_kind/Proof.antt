@@ -2,7 +2,7 @@
 use mathlib.Core.Path.{sym, ap, _∙_}
 use mathlib.Core.Bool.{cond}
 use mathlib.Core.Logic.{⊎-elim}
-use Rattle.walk_judge.proofs.Laws.{undefined-plain, undefined-lambda, undefined-inner}
+use Rattle.walk_judge.proofs.Ways.{undefined-plain, undefined-lambda, undefined-inner}
 use Rattle.walk_judge.proofs.undefined_kind.Statement.{statement}
 use Rattle.walk_judge.proofs.undefined_kind.Tie as tie
 

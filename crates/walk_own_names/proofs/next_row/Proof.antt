@@ -4,7 +4,7 @@ use mathlib.Core.Path.{sym, _∙_}
 use mathlib.Core.Logic.{inl, inr, ⊎-elim}
 use borrow.Author.Needs.{needs}
 use borrow.Author.Tests.{leb-true, leb-false}
-use Rattle.walk_own_names.proofs.Steps.{next-past, next-child, next-after}
+use Rattle.walk_own_names.proofs.Ways.{next-past, next-child, next-after}
 use Rattle.walk_own_names.proofs.next_row.Statement.{statement}
 use Rattle.walk_own_names.proofs.next_row.Tie as tie
 

@@ -3,7 +3,7 @@ use native.Mathlib.Omega.{arith}
 use mathlib.Core.Path.{sym, _∙_}
 use mathlib.Core.Logic.{⊎-elim}
 use borrow.Author.Needs.{needs}
-use Rattle.walk_own_names.proofs.Steps.{noted-none, noted-stays, noted-first, noted-new}
+use Rattle.walk_own_names.proofs.Ways.{noted-none, noted-stays, noted-first, noted-new}
 use Rattle.walk_own_names.proofs.note.Statement.{statement}
 use Rattle.walk_own_names.proofs.note.Tie as tie
 

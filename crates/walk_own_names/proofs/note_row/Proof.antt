@@ -3,8 +3,8 @@ use Prim.Native.Nat.{_+_}
 use mathlib.Core.Path.{sym, ap, _∙_}
 use borrow.Author.Needs.{needs}
 use Rattle.work_rows.specs.Layout.{numberAt}
-use Rattle.walk_own_names.specs.Own.{noted}
-use Rattle.walk_own_names.proofs.Steps.{row-def, row-class, row-for, row-var, row-none}
+use Rattle.walk_own_names.specs.OwnNamesModel.{noted}
+use Rattle.walk_own_names.proofs.Ways.{row-def, row-class, row-for, row-var, row-none}
 use Rattle.walk_own_names.proofs.note_row.Statement.{statement}
 use Rattle.walk_own_names.proofs.note_row.Tie as tie
 

@@ -4,8 +4,8 @@ use native.Mathlib.Omega.{arith}
 use mathlib.Core.Path.{_≡_, refl, sym, _∙_}
 use lib.ListN.{length}
 use Rattle.work_marks.proofs.Loops.{rows-end}
-use Rattle.walk_own_names.specs.Own.{rowNoted, nextNoted, allNoted}
-use Rattle.walk_own_names.proofs.Steps.{all-more}
+use Rattle.walk_own_names.specs.OwnNamesModel.{rowNoted, nextNoted, allNoted}
+use Rattle.walk_own_names.proofs.Ways.{all-more}
 use Rattle.walk_own_names.proofs.note_rows.Statement.{statement}
 use Rattle.walk_own_names.proofs.note_rows.Tie as tie
 

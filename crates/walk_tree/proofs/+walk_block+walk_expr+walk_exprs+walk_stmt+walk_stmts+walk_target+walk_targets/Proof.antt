@@ -5,11 +5,11 @@ use native.Mathlib.Omega.{arith}
 use mathlib.Core.Path.{_≡_, refl, sym, _∙_}
 use mathlib.Core.Bool.{false}
 use lib.ListN.{length}
-use Rattle.work_marks.specs.Marks.{afterRow}
-use Rattle.work_marks.specs.Loops.{rowsTo}
+use Rattle.work_marks.specs.MarksModel.{afterRow}
+use Rattle.work_marks.specs.LoopsModel.{rowsTo}
 use Rattle.work_marks.proofs.Loops.{rows-end, rows-turn}
-use Rattle.walk_tree.specs.Walk.{nextTarget, targetAt, walkExpr, walkLine, walkExprs, walkStmts}
-use Rattle.walk_tree.proofs.Laws.{
+use Rattle.walk_tree.specs.WalkModel.{nextTarget, targetAt, walkExpr, walkLine, walkExprs, walkStmts}
+use Rattle.walk_tree.proofs.Ways.{
   after-on,
   target-on,
   number-small,

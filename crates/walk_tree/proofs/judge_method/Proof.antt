@@ -1,7 +1,7 @@
 -- The test for `self`, and the slot.
 use mathlib.Core.Path.{sym, _∙_}
 use borrow.Author.Needs.{needs}
-use Rattle.walk_tree.proofs.Laws.{method-fault, method-plain}
+use Rattle.walk_tree.proofs.Ways.{method-fault, method-plain}
 use Rattle.walk_tree.proofs.judge_method.Statement.{statement}
 use Rattle.walk_tree.proofs.judge_method.Tie as tie
 

@@ -2,7 +2,7 @@
 use native.Mathlib.Omega.{arith}
 use mathlib.Core.Path.{sym, _∙_}
 use borrow.Author.Needs.{needs}
-use Rattle.walk_tree.proofs.Laws.{target-child, target-after}
+use Rattle.walk_tree.proofs.Ways.{target-child, target-after}
 use Rattle.walk_tree.proofs.next_target.Statement.{statement}
 use Rattle.walk_tree.proofs.next_target.Tie as tie
 

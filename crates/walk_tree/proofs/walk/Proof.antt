@@ -2,7 +2,7 @@
 use native.Mathlib.Omega.{arith}
 use mathlib.Core.Path.{ap, _∙_}
 use Rattle.walk_scopes.specs.declared.ScopeStack.{ScopeStack}
-use Rattle.walk_tree.proofs.Laws.{walk-whole}
+use Rattle.walk_tree.proofs.Ways.{walk-whole}
 use Rattle.walk_tree.proofs.walk.Statement.{statement}
 use Rattle.walk_tree.proofs.walk.Tie as tie
 

@@ -3,7 +3,7 @@ use Prim.Native.Nat.{_+_, _*_, _%_}
 use mathlib.Core.Path.{ap, _∙_}
 use borrow.Author.Needs.{needs}
 use Rattle.work_rows.specs.Layout.{put}
-use Rattle.work_marks.specs.Marks.{putSlot}
+use Rattle.work_marks.specs.MarksModel.{putSlot}
 use Rattle.work_marks.proofs.put_slot.Statement.{statement}
 use Rattle.work_marks.proofs.put_slot.Tie as tie
 

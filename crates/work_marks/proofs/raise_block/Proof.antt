@@ -2,7 +2,7 @@
 use native.Mathlib.Omega.{arith}
 use mathlib.Core.Path.{_∙_}
 use borrow.Author.Needs.{needs}
-use Rattle.work_marks.specs.Marks.{blockEnd, putBlockEnd, raisedBlock}
+use Rattle.work_marks.specs.MarksModel.{blockEnd, putBlockEnd, raisedBlock}
 use Rattle.work_marks.proofs.Raised.{raise-on, raise-high, raise-none}
 use Rattle.work_marks.proofs.raise_block.Statement.{statement}
 use Rattle.work_marks.proofs.raise_block.Tie as tie

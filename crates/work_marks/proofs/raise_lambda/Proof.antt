@@ -2,7 +2,7 @@
 use native.Mathlib.Omega.{arith}
 use mathlib.Core.Path.{_∙_}
 use borrow.Author.Needs.{needs}
-use Rattle.work_marks.specs.Marks.{lambdaEnd, putLambdaEnd, raisedLambda}
+use Rattle.work_marks.specs.MarksModel.{lambdaEnd, putLambdaEnd, raisedLambda}
 use Rattle.work_marks.proofs.Raised.{raise-on, raise-high, raise-none}
 use Rattle.work_marks.proofs.raise_lambda.Statement.{statement}
 use Rattle.work_marks.proofs.raise_lambda.Tie as tie

@@ -8,9 +8,9 @@ use lib.ListN.{length}
 use borrow.Author.Needs.{needs}
 use Rattle.spec_text.specs.Bytes.{Bytes, same}
 use Rattle.read_fields.specs.declared.Cursor.{Cursor}
-use Rattle.read_fields.specs.Fields.{fieldAt, pastEnd}
+use Rattle.read_fields.specs.FieldsModel.{fieldAt, pastEnd}
 use Rattle.read_fields.proofs.Fields.{clash, field-within, same-length}
-use Rattle.read_fields.proofs.Steps.{no-field, field-taken}
+use Rattle.read_fields.proofs.Takes.{no-field, field-taken}
 use Rattle.read_fields.proofs.Cursor.field.Statement.{statement}
 use Rattle.read_fields.proofs.Cursor.field.Tie as tie
 

@@ -8,9 +8,9 @@ use lib.ListN.{length, getD}
 use borrow.Author.Tests.{not-true, not-false}
 use Rattle.spec_text.specs.Bytes.{Bytes, isDigit, isNameByte}
 use Rattle.read_fields.specs.declared.Cursor.{Cursor}
-use Rattle.read_fields.specs.Fields.{fieldAt, hashFrom, endOf}
+use Rattle.read_fields.specs.FieldsModel.{fieldAt, hashFrom, endOf}
 use Rattle.read_fields.proofs.Fields.{clash, tested, name-bytes, inside, field-more, field-first, Run, run-here, run-more, run-stop, run-whole, run-broken, hash-more, hash-none}
-use Rattle.read_fields.proofs.Steps.{IsName, no-name, name-taken}
+use Rattle.read_fields.proofs.Takes.{IsName, no-name, name-taken}
 use Rattle.read_fields.proofs.Cursor.name.Statement.{statement}
 use Rattle.read_fields.proofs.Cursor.name.Tie as tie
 

@@ -9,9 +9,9 @@ use lib.ListN.{length, getD}
 use borrow.Author.Tests.{not-true, not-false, eq-eqb, ne-eqb}
 use Rattle.spec_text.specs.Bytes.{Bytes, isDigit, decimal, leadingZero}
 use Rattle.read_fields.specs.declared.Cursor.{Cursor}
-use Rattle.read_fields.specs.Fields.{fieldAt, endOf}
+use Rattle.read_fields.specs.FieldsModel.{fieldAt, endOf}
 use Rattle.read_fields.proofs.Fields.{clash, tested, digits, inside, field-more, field-within, Run, run-here, run-more, run-stop, run-whole, run-broken}
-use Rattle.read_fields.proofs.Steps.{IsNumber, no-number, number-taken, led-by, led-one, decimal-grows, digit-bounds}
+use Rattle.read_fields.proofs.Takes.{IsNumber, no-number, number-taken, led-by, led-one, decimal-grows, digit-bounds}
 use Rattle.read_fields.proofs.Cursor.number.Statement.{statement}
 use Rattle.read_fields.proofs.Cursor.number.Tie as tie
 

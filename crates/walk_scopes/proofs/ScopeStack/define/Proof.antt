@@ -1,7 +1,7 @@
 -- The mark of a block or of a lambda, by the test.
 use mathlib.Core.Path.{sym, _∙_}
 use borrow.Author.Needs.{needs}
-use Rattle.walk_scopes.proofs.Laws.{defined-block, defined-lambda}
+use Rattle.walk_scopes.proofs.Define.{defined-block, defined-lambda}
 use Rattle.walk_scopes.proofs.ScopeStack.define.Statement.{statement}
 use Rattle.walk_scopes.proofs.ScopeStack.define.Tie as tie
 

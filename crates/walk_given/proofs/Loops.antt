@@ -1,0 +1,55 @@
+-- A turn and the end of each loop: over the rows that are cleared, over the table of the built-in names, and over the `global` lines. What
+-- is left to do, done to the buffer of the next turn, gives what it gives now.
+use Prim.Native.Nat.{ℕ, suc, _+_, _-_, _%_, _≤_, _<_}
+use native.Mathlib.Omega.{arith}
+use mathlib.Core.Path.{_≡_, sym, ap, _∙_}
+use mathlib.Core.List.{List}
+use lib.ListN.{length, getD, take, drop, drop-of-length-le}
+use Rattle.spec_text.specs.Bytes.{Bytes}
+use Rattle.work_rows.specs.Layout.{put, headBase, numberAt}
+use Rattle.read_names.specs.ChainsModel.{lookup}
+use Rattle.walk_builtins.specs.Table.{cutBy}
+use Rattle.walk_builtins.proofs.Search.{cut-turn}
+use Rattle.work_marks.specs.MarksModel.{putStamp}
+use Rattle.walk_scopes.specs.ScopesModel.{defined}
+use Rattle.walk_scopes.specs.declared.ScopeStack.{ScopeStack}
+use Rattle.walk_given.specs.GivenModel.{fresh, given, globalsFrom}
+
+-- ---- n rows are cleared, and i of them are; x is the number that has row i's mark and slot
+module _ (n i : ℕ) (w : List ℕ) where
+  pub fresh-more : (x : ℕ) (v z : List ℕ) → i < n → x ≡ getD w (headBase + i) 0 → v ≡ put w (headBase + i) (x % 8_192) → z ≡ putStamp v i 0
+      → fresh (n - (i + 1)) (i + 1) z ≡ fresh (n - i) i w
+  unfolding fresh
+  fresh-more x v z l p q r =
+      let e : n - i ≡ suc (n - (i + 1)) = omega arith in
+      ap (fresh (n - (i + 1)) (i + 1)) (r ∙ ap (λ y. putStamp y i 0) (q ∙ ap (λ y. put w (headBase + i) (y % 8_192)) p))
+      ∙ sym (ap (λ k. fresh k i w) e)
+
+  pub fresh-end : n ≤ i → fresh (n - i) i w ≡ w
+  unfolding fresh
+  fresh-end l = let e : n - i ≡ 0 = omega arith in ap (λ k. fresh k i w) e
+
+-- ---- the names that the lengths ns cut from the bytes bs, from place k and byte at on; a is the number of the next
+module _ (text : Bytes) (s : ScopeStack) (ns bs : List ℕ) (w : List ℕ) where
+  pub given-more : (at k a : ℕ) (z : List ℕ) → k < length ns → a ≡ lookup text w (take (at + getD ns k 0 - at) (drop at bs)) → z ≡ defined s w a
+      → given text s (cutBy (drop (k + 1) ns) (drop (at + getD ns k 0) bs)) z ≡ given text s (cutBy (drop k ns) (drop at bs)) w
+  unfolding given
+  given-more at k a z l p q =
+      ap (given text s (cutBy (drop (k + 1) ns) (drop (at + getD ns k 0) bs))) (q ∙ ap (defined s w) p)
+      ∙ sym (ap (λ xs. given text s xs w) (cut-turn ns bs at k l))
+
+  pub given-end : (at k : ℕ) → length ns ≤ k → given text s (cutBy (drop k ns) (drop at bs)) w ≡ w
+  unfolding given
+  given-end at k l = ap (λ ys. given text s (cutBy ys (drop at bs)) w) (drop-of-length-le ns l)
+
+-- ---- n `global` lines, of which i are bound; a is the number of the next
+module _ (n i : ℕ) (s : ScopeStack) (w : List ℕ) where
+  pub globals-more : (a : ℕ) (z : List ℕ) → i < n → a ≡ numberAt w i → z ≡ defined s w a → globalsFrom (n - (i + 1)) (i + 1) s z ≡ globalsFrom (n - i) i s w
+  unfolding globalsFrom
+  globals-more a z l p q =
+      let e : n - i ≡ suc (n - (i + 1)) = omega arith in
+      ap (globalsFrom (n - (i + 1)) (i + 1) s) (q ∙ ap (defined s w) p) ∙ sym (ap (λ k. globalsFrom k i s w) e)
+
+  pub globals-end : n ≤ i → globalsFrom (n - i) i s w ≡ w
+  unfolding globalsFrom
+  globals-end l = let e : n - i ≡ 0 = omega arith in ap (λ k. globalsFrom k i s w) e

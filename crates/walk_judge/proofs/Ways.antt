@@ -1,0 +1,83 @@
+-- The definitions by their tests: the kind of a fault, the way of a fault of a kind that blames a lambda, and the ways of a read.
+use Prim.Native.Nat.{ℕ, _+_, _/_, _%_, _≤_, _<_}
+use mathlib.Core.Path.{_≡_, sym, ap, _∙_}
+use mathlib.Core.Bool.{Bool, true, false, cond}
+use mathlib.Core.List.{List}
+use lib.Dec.{eqb, ltb}
+use borrow.Author.Tests.{lt-ltb, le-ltb, eq-eqb, ne-eqb}
+use Rattle.spec_faults.specs.Faults.{capture}
+use Rattle.work_marks.specs.MarksModel.{lambdaEnd, raisedLambda, putSlot, stampAt}
+use Rattle.walk_scopes.specs.ScopesModel.{aDef, module′, isDefined}
+use Rattle.walk_scopes.specs.declared.ScopeStack.{ScopeStack}
+use Rattle.walk_judge.specs.JudgeModel.{unboundKind, undefinedKind, faulted, isOwn, readOf}
+
+-- ---- the kind of a fault
+module _ (s : ScopeStack) (called : Bool) where
+  pub unbound-lambda : (s .outer ≡ 0 → ⊥) → unboundKind s called ≡ 13
+  unfolding unboundKind
+  unbound-lambda d = rw (ne-eqb (s .outer) 0 d)
+
+  pub unbound-plain : s .outer ≡ 0 → unboundKind s called ≡ cond called 12 11
+  unfolding unboundKind
+  unbound-plain e = rw (eq-eqb (s .outer) 0 e)
+
+  pub undefined-plain : s .outer ≡ 0 → undefinedKind s called ≡ cond called 9 8
+  unfolding undefinedKind
+  undefined-plain e = rw (eq-eqb (s .outer) 0 e)
+
+  module _ (d : s .outer ≡ 0 → ⊥) where
+    pub undefined-lambda : s .home ≡ module′ → undefinedKind s called ≡ 10
+    unfolding undefinedKind
+    undefined-lambda e = rw (ne-eqb (s .outer) 0 d, eq-eqb (s .home) module′ e)
+
+    pub undefined-inner : (s .home ≡ module′ → ⊥) → undefinedKind s called ≡ cond called 9 8
+    unfolding undefinedKind
+    undefined-inner n = rw (ne-eqb (s .outer) 0 d, ne-eqb (s .home) module′ n)
+
+-- ---- a fault of the name a at row i, of kind k
+module _ (s : ScopeStack) (a i k : ℕ) (w : List ℕ) where
+  pub faulted-blames : capture k ≡ true → faulted s a i k w ≡ raisedLambda (putSlot w i k) a (s .outer)
+  unfolding faulted
+  faulted-blames e = rw e
+
+  pub faulted-plain : capture k ≡ false → faulted s a i k w ≡ putSlot w i k
+  unfolding faulted
+  faulted-plain e = rw e
+
+-- ---- a name is an own one, by its stamp t
+module _ (s : ScopeStack) (a : ℕ) (w : List ℕ) where
+  pub own-by : s .home ≡ aDef → (t : ℕ) → t ≡ stampAt w a → (b : Bool) → eqb (t / 8_192) (s .block + 1) ≡ b → isOwn s w a ≡ b
+  own-by h t e b q = rw (eq-eqb (s .home) aDef h, ← e) q
+
+  pub own-not : (s .home ≡ aDef → ⊥) → isOwn s w a ≡ false
+  own-not d = rw (ne-eqb (s .home) aDef d)
+
+-- ---- the read of the name a at row i
+module _ (s : ScopeStack) (called : Bool) (a i : ℕ) (w : List ℕ) where
+  pub read-param : i < lambdaEnd w a → w ≡ readOf s called a i w
+  unfolding readOf
+  read-param l = rw (lt-ltb i (lambdaEnd w a) l)
+
+  -- what the read comes to, past the marks of lambdas
+  abbrev read-rest : Bool → Bool → Bool → List ℕ
+  read-rest own early seen =
+      cond own (cond early (faulted s a i (unboundKind s called) w) w) (cond seen w (faulted s a i (undefinedKind s called) w))
+
+  module _ (l : lambdaEnd w a ≤ i) where
+    read-by : readOf s called a i w ≡ read-rest (isOwn s w a) (ltb i (stampAt w a % 8_192)) (isDefined w a i)
+    unfolding readOf
+    read-by = rw (le-ltb i (lambdaEnd w a) l)
+
+    pub read-unbound : isOwn s w a ≡ true → i < stampAt w a % 8_192 → (k : ℕ) (z : List ℕ) → k ≡ unboundKind s called → z ≡ faulted s a i k w
+        → z ≡ readOf s called a i w
+    read-unbound o m k z p q = q ∙ (ap (λ y. faulted s a i y w) p ∙ sym (read-by ∙ rw (o, lt-ltb i (stampAt w a % 8_192) m)))
+
+    pub read-own : isOwn s w a ≡ true → stampAt w a % 8_192 ≤ i → w ≡ readOf s called a i w
+    read-own o m = sym (read-by ∙ rw (o, le-ltb i (stampAt w a % 8_192) m))
+
+    pub read-in-view : isOwn s w a ≡ false → isDefined w a i ≡ true → w ≡ readOf s called a i w
+    read-in-view o m = sym (read-by ∙ rw (o, m))
+
+    pub read-undefined : isOwn s w a ≡ false → isDefined w a i ≡ false → (k : ℕ) (z : List ℕ) → k ≡ undefinedKind s called → z ≡ faulted s a i k w
+        → z ≡ readOf s called a i w
+    read-undefined o m k z p q = q ∙ (ap (λ y. faulted s a i y w) p ∙ sym (read-by ∙ rw (o, m)))
