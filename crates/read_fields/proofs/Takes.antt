@@ -126,3 +126,12 @@ module _ (s : Bytes) (c : Cursor) where
       let l : i - c .at ≡ length (fieldAt s (c .at)) = omega (arith, w .ends) in
       let e : record { at = c .at; len = i - c .at; hash = h; next = n } ≡ named = cc (w .steps) in
       e ∙ taken isName s c named noName (record { ok = o; more = m; right = is-name (fieldAt s (c .at)) k; ended = w .ended })
+
+-- what holds where a step takes a field
+pub takes-facts : (right : Bytes → Bool) (text : Bytes) (c : Cursor) → takes right text c ≡ true
+    → (c .ok ≡ true) × (c .more ≡ true) × (right (fieldAt text (c .at)) ≡ true) × (isEnd (endByte text (c .at)) ≡ true)
+takes-facts right text c e =
+    let a = and-split (c .ok) _ e in
+    let b = and-split (c .more) _ (a .1) in
+    let d = and-split (right (fieldAt text (c .at))) _ (b .1) in
+    (a .0, b .0, d .0, d .1)

@@ -12,15 +12,6 @@ use Rattle.read_fields.specs.declared.Cursor.{Cursor}
 use Rattle.spec_text.proofs.Lists.{and-split}
 use Rattle.read_line.proofs.Cut.{toCome, fieldOf, before, stop, unroll, where-ok}
 
--- what holds where a step takes a field
-pub takes-facts : (right : Bytes → Bool) (text : Bytes) (c : Cursor) → takes right text c ≡ true
-    → (c .ok ≡ true) × (c .more ≡ true) × (right (fieldAt text (c .at)) ≡ true) × (isEnd (endByte text (c .at)) ≡ true)
-takes-facts right text c e =
-    let a = and-split (c .ok) _ e in
-    let b = and-split (c .more) _ (a .1) in
-    let d = and-split (right (fieldAt text (c .at))) _ (b .1) in
-    (a .0, b .0, d .0, d .1)
-
 -- the fields that were taken, and the cursor past them
 pub record Row : Type 0 where
   pub parts : List Part

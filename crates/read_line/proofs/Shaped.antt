@@ -11,7 +11,8 @@ use Rattle.spec_text.specs.Lines.{Word, Cut, wellFormed, parsed, sortOf}
 use Rattle.read_fields.specs.declared.Cursor.{Cursor}
 use Rattle.read_fields.specs.declared.Name.{Name}
 use Rattle.read_line.specs.LineModel.{noLine, numbersOf as lineOf}
-use Rattle.read_line.specs.StepsModel.{spanFrom, countFrom, ownFrom, shaped, ofWord}
+use Rattle.read_words.specs.WordsModel.{ofWord}
+use Rattle.read_line.specs.StepsModel.{spanFrom, countFrom, ownFrom, shaped}
 use Rattle.read_line.specs.declared.Line.{Line}
 use Rattle.read_line.proofs.Cut.{toCome}
 use Rattle.read_line.proofs.FieldRows.{Row, rowFrom, begins, without, Taken, took, lost, row-refused, row-taken}

@@ -16,7 +16,7 @@ use Rattle.read_fields.proofs.Fields.{inside}
 use Rattle.read_line.specs.StepsModel.{paramsFrom, allNames}
 use Rattle.read_line.specs.declared.Params.{Params}
 use Rattle.read_line.proofs.Cut.{toCome, fieldOf, before, stop, unroll, where-ok}
-use Rattle.read_line.proofs.FieldRows.{takes-facts}
+use Rattle.read_fields.proofs.Takes.{takes-facts}
 use Rattle.read_line.proofs.Due.{isNamePart, names-left}
 
 -- so many more parameters; a refused line has none

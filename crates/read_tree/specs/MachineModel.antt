@@ -9,7 +9,7 @@ use Rattle.spec_text.specs.Bytes.{Bytes}
 use Rattle.spec_text.specs.Lines.{words}
 use Rattle.spec_text.specs.Reading.{Rest, mostLines, mostParams, deepest}
 use Rattle.read_line.specs.LineModel.{lineAt}
-use Rattle.read_line.specs.StepsModel.{noWord}
+use Rattle.read_words.specs.WordsModel.{noWord}
 use Rattle.read_line.specs.declared.Line.{Line}
 use Rattle.work_rows.specs.Layout.{put, dueBase, kindAt}
 use Rattle.read_names.specs.ChainsModel.{placed, added, cleared}

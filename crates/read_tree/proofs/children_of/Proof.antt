@@ -8,7 +8,7 @@ use borrow.Author.Needs.{needs}
 use Rattle.spec_text.specs.Lines.{Word, words}
 use Rattle.read_tree.specs.declared.Children.{Children}
 use Rattle.read_tree.specs.AgendaModel.{childrenOf}
-use Rattle.read_line.specs.StepsModel.{noWord}
+use Rattle.read_words.specs.WordsModel.{noWord}
 use Rattle.read_tree.specs.MachineModel.{childrenBy}
 use Rattle.read_tree.proofs.FirstTest.{From, within}
 use Rattle.read_tree.proofs.children_of.Statement.{statement}

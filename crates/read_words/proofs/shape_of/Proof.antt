@@ -4,11 +4,11 @@ use mathlib.Core.Path.{_≡_, sym, ap, _∙_}
 use Prim.Native.Nat.{ℕ, _≤_}
 use lib.ListN.{List·getD-eq-default}
 use Rattle.spec_text.specs.Lines.{words}
-use Rattle.read_line.specs.StepsModel.{shapeOf, ofWord, noWord}
-use Rattle.read_line.specs.declared.Shape.{Shape}
-use Rattle.read_line.proofs.Keys.{beyond}
-use Rattle.read_line.proofs.shape_of.Statement.{statement}
-use Rattle.read_line.proofs.shape_of.Tie as tie
+use Rattle.read_words.specs.WordsModel.{shapeOf, ofWord, noWord}
+use Rattle.read_words.specs.declared.Shape.{Shape}
+use Rattle.read_words.proofs.Keys.{beyond}
+use Rattle.read_words.proofs.shape_of.Statement.{statement}
+use Rattle.read_words.proofs.shape_of.Tie as tie
 
 row-at : (i : ℕ) {k : ℕ} {s : Shape} → k ≡ i → s ≡ shapeOf i → s ≡ shapeOf k
 row-at i e h = h ∙ ap shapeOf (sym e)

@@ -6,11 +6,11 @@ use mathlib.Core.List.{List, []}
 use Prim.Native.Nat.{ℕ}
 use Rattle.spec_text.specs.Bytes.{Bytes, bytes}
 use Rattle.read_fields.specs.declared.Cursor.{Cursor}
-use Rattle.read_line.specs.StepsModel.{kindFrom}
-use Rattle.read_line.specs.declared.Kind.{Kind}
-use Rattle.read_line.proofs.Letters.{Tried, none, or, listed, by-letter, no-letter}
-use Rattle.read_line.proofs.kind_of.Statement.{statement}
-use Rattle.read_line.proofs.kind_of.Tie as tie
+use Rattle.read_words.specs.WordsModel.{kindFrom}
+use Rattle.read_words.specs.declared.Kind.{Kind}
+use Rattle.read_words.proofs.Letters.{Tried, none, or, listed, by-letter, no-letter}
+use Rattle.read_words.proofs.kind_of.Statement.{statement}
+use Rattle.read_words.proofs.kind_of.Tie as tie
 
 -- at the `match`: the text, the cursor, and no word tried yet
 abbrev S : tie.After-byte-at → Bytes

@@ -15,11 +15,11 @@ use Rattle.spec_text.proofs.Lists.{and-split, next-of, at-next, same-eq}
 use Rattle.read_fields.specs.FieldsModel.{fieldAt, refused, past, takes}
 use Rattle.read_fields.specs.declared.Cursor.{Cursor}
 use Rattle.read_fields.proofs.Fields.{field-first}
-use Rattle.read_line.specs.StepsModel.{place, isWord, noWord, noKind, kindFrom, orWord}
-use Rattle.read_line.specs.declared.Kind.{Kind}
-use Rattle.read_line.proofs.Keys.{among, Unlike, unlike}
-use Rattle.read_line.proofs.FieldRows.{takes-facts}
-use Rattle.read_line.proofs.WordPlaces.{wordAt, some-bytes}
+use Rattle.read_words.specs.WordsModel.{place, isWord, noWord, noKind, kindFrom, orWord}
+use Rattle.read_words.specs.declared.Kind.{Kind}
+use Rattle.read_words.proofs.Keys.{among, Unlike, unlike}
+use Rattle.read_fields.proofs.Takes.{takes-facts}
+use Rattle.read_words.proofs.WordPlaces.{wordAt, some-bytes}
 
 -- ---- a field that has the bytes of a word
 abbrev pub spelt : ℕ → Bytes

@@ -12,7 +12,7 @@ use borrow.Author.Tests.{lt-ltb, le-ltb, leb-true, ltb-true}
 use Rattle.spec_text.specs.Bytes.{Bytes, Part, same}
 use Rattle.spec_text.specs.Lines.{Word, words, Parsed, wellFormed, parsed, lineOf}
 use Rattle.spec_text.proofs.Lists.{next-of, at-next, test-at}
-use Rattle.read_line.specs.StepsModel.{place, isWord, noWord}
+use Rattle.read_words.specs.WordsModel.{place, isWord, noWord}
 
 -- the word in row k
 abbrev pub wordAt : ℕ → Word

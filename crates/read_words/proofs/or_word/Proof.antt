@@ -3,10 +3,10 @@ use borrow.Author.Needs.{needs}
 use mathlib.Core.Path.{refl}
 use Rattle.spec_text.specs.Bytes.{same}
 use Rattle.read_fields.specs.FieldsModel.{past, takes}
-use Rattle.read_line.specs.StepsModel.{orWord}
-use Rattle.read_line.proofs.Letters.{word-taken, word-left}
-use Rattle.read_line.proofs.or_word.Statement.{statement}
-use Rattle.read_line.proofs.or_word.Tie as tie
+use Rattle.read_words.specs.WordsModel.{orWord}
+use Rattle.read_words.proofs.Letters.{word-taken, word-left}
+use Rattle.read_words.proofs.or_word.Statement.{statement}
+use Rattle.read_words.proofs.or_word.Tie as tie
 
 returns : tie.Need-returns
 unfolding orWord
