@@ -7,11 +7,12 @@ use Rattle.spec_text.specs.Bytes.{Bytes}
 use Rattle.spec_text.specs.Lines.{countAt}
 use Rattle.read_line.specs.declared.Line.{Line}
 use Rattle.read_line.specs.LineModel.{lineAt}
-use Rattle.read_tree.specs.declared.Children.{Children}
+use Rattle.read_words.specs.declared.Children.{Children}
 use Rattle.read_tree.specs.declared.Due.{Due}
 use Rattle.read_tree.specs.declared.Progress.{Progress}
-use Rattle.read_tree.specs.MachineModel.{dueAt, childrenBy, progressTo, Bounded, left, Few}
-use Rattle.read_tree.proofs.Few.{few-by}
+use Rattle.read_tree.specs.MachineModel.{dueAt, progressTo, Bounded, left}
+use Rattle.read_words.specs.ChildrenModel.{childrenBy, Few}
+use Rattle.read_words.proofs.Few.{few-by}
 use Rattle.read_tree.proofs.Same.{Same, read, refuse, same}
 
 -- what the code needs of line n, which starts at an offset

@@ -17,8 +17,9 @@ use Rattle.read_names.proofs.Theorems.{other-names}
 use Rattle.read_tree.specs.Rows.{Row}
 use Rattle.read_tree.specs.Laid.{Holds, nameIn}
 use Rattle.read_tree.specs.AgendaModel.{Entry, run, close, due, dueBelow}
-use Rattle.read_tree.specs.MachineModel.{Stack, stack, runWord, closeWord, pushed, pushedClose, pushedBelow, lessened, Few}
-use Rattle.read_tree.specs.declared.Children.{Children}
+use Rattle.read_tree.specs.MachineModel.{Stack, stack, runWord, closeWord, pushed, pushedClose, pushedBelow, lessened}
+use Rattle.read_words.specs.ChildrenModel.{Few}
+use Rattle.read_words.specs.declared.Children.{Children}
 
 -- ---- entries
 abbrev pub wordOf : Entry → ℕ

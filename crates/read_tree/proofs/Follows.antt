@@ -14,14 +14,14 @@ use Rattle.spec_text.specs.Reading.{Rest, Read, got, refused, Due, tooDeep, lin
 use Rattle.read_line.specs.LineModel.{lineAt, numbersOf}
 use Rattle.read_tree.specs.Rows.{Row, row}
 use Rattle.read_tree.specs.Laid.{startOf}
-use Rattle.read_tree.specs.AgendaModel.{Entry, run, close, due, dueBelow, childrenIn, State, Phase, on, stopped, closeAt, ofSort, lineDue, lineOpened, turned, turn}
-use Rattle.read_tree.specs.MachineModel.{Machine, machine, progressTo, Stack, stack, entryOf, turnBy, turnOf, taken, takenIf, onward, below, dueAt, childrenBy, restAt, Few}
-use Rattle.read_tree.specs.MachineModel.{runWord, closeWord, rowClosed, rowWritten, lessened, isLeaf, pushedDue}
-use Rattle.read_tree.specs.declared.Children.{Children}
+use Rattle.read_tree.specs.AgendaModel.{Entry, run, close, due, dueBelow, State, Phase, on, stopped, closeAt, ofSort, lineDue, lineOpened, turned, turn}
+use Rattle.read_words.specs.ChildrenModel.{childrenIn, childrenBy, Few}
+use Rattle.read_tree.specs.MachineModel.{Machine, machine, progressTo, Stack, stack, entryOf, turnBy, turnOf, taken, takenIf, onward, below, dueAt, restAt, runWord, closeWord, rowClosed, rowWritten, lessened, isLeaf, pushedDue}
+use Rattle.read_words.specs.declared.Children.{Children}
 use Rattle.read_tree.proofs.Via.{at as state}
 use Rattle.read_tree.proofs.Same.{Known, Same, read, refuse, same}
 use Rattle.read_tree.proofs.Starts.{skip-next}
-use Rattle.read_tree.proofs.Few.{few-by}
+use Rattle.read_words.proofs.Few.{few-by}
 use Rattle.read_tree.proofs.Buffer.{Held, wordOf, word-on, fits-on, fits-due, fits-row, due-low, pop-held, lessened-held, below-held}
 use Rattle.read_tree.proofs.Written.{length-more, row-held, close-length, closed-held}
 

@@ -8,10 +8,11 @@ use Rattle.spec_text.specs.Bytes.{Bytes}
 use Rattle.read_line.specs.declared.Line.{Line}
 use Rattle.work_rows.specs.Layout.{put}
 use Rattle.read_names.specs.ChainsModel.{placed, added}
-use Rattle.read_tree.specs.declared.Children.{Children}
+use Rattle.read_words.specs.declared.Children.{Children}
 use Rattle.read_tree.specs.declared.Due.{Due}
 use Rattle.read_tree.specs.declared.Progress.{Progress}
-use Rattle.read_tree.specs.MachineModel.{dueAt, childrenBy, Stack, stack, pushed, pushedClose, pushedBelow, pushedDue, lessened, rowWritten, rowClosed, Machine, machine, progressTo, onward, below, takenIf, taken, entryOf, turnBy, turnOf, Turns, done, more}
+use Rattle.read_tree.specs.MachineModel.{dueAt, Stack, stack, pushed, pushedClose, pushedBelow, pushedDue, lessened, rowWritten, rowClosed, Machine, machine, progressTo, onward, below, takenIf, taken, entryOf, turnBy, turnOf, Turns, done, more}
+use Rattle.read_words.specs.ChildrenModel.{childrenBy}
 use Rattle.read_tree.proofs.FirstTest.{holds, fails}
 
 -- ---- seven pushes, each on what the one before leaves

@@ -12,7 +12,6 @@ pub mod CutText
 pub mod ParsedFacts
 pub mod Same
 pub mod Starts
-pub mod Few
 pub mod Buffer
 pub mod Written
 pub mod Follows

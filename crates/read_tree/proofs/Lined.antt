@@ -15,7 +15,8 @@ use Rattle.spec_text.specs.Lines.{Form, Word, words, Cut, cut, Parsed, wellForm
 use Rattle.spec_text.specs.Reading.{Rest, Read, got, refused, andThen, Due, withinLimits, limited, dueHere, line, tooDeep}
 use Rattle.spec_text.proofs.Lists.{and-split}
 use Rattle.read_tree.specs.Rows.{Row, row}
-use Rattle.read_tree.specs.AgendaModel.{Entry, run, close, due, childrenIn, dueBelow, State, Phase, ofSort, lineOpened, here, step, stop}
+use Rattle.read_tree.specs.AgendaModel.{Entry, run, close, due, dueBelow, State, Phase, ofSort, lineOpened, here, step, stop}
+use Rattle.read_words.specs.ChildrenModel.{childrenIn}
 use Rattle.read_tree.proofs.Sorts.{Fits, fits-some, fits-none, Sorts}
 use Rattle.read_tree.proofs.Via.{at, Goes, goes-from, goes-out, Refuses, refuses}
 

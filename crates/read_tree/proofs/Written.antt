@@ -18,8 +18,7 @@ use Rattle.read_line.specs.LineModel.{numbersOf}
 use Rattle.work_rows.specs.Layout.{put, rowsMost, nameBase, dueBase, offsetAt, kindAt}
 use Rattle.read_fields.specs.FieldsModel.{fieldAt, hashOf}
 use Rattle.read_names.specs.ChainsModel.{Names, partOf, placed, added}
-use Rattle.read_names.proofs.Theorems.{Outside, other-names, placed-names, placed-length, placed-offset, placed-rows, placed-outside}
-use Rattle.read_names.proofs.Theorems.{added-names, added-length, added-offset, added-rows, added-outside}
+use Rattle.read_names.proofs.Theorems.{Outside, other-names, placed-names, placed-length, placed-offset, placed-rows, placed-outside, added-names, added-length, added-offset, added-rows, added-outside}
 use Rattle.read_tree.specs.Rows.{Row, row}
 use Rattle.read_tree.specs.Laid.{Holds, numberOf, nameIn, startOf, offsetOf}
 use Rattle.read_tree.specs.AgendaModel.{Entry, closeAt}

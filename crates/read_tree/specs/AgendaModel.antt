@@ -8,10 +8,11 @@ use mathlib.Core.Path.{_≡_}
 use lib.Dec.{eqb}
 use lib.ListN.{length}
 use Rattle.spec_text.specs.Tree.{Tree}
-use Rattle.spec_text.specs.Lines.{StmtForm, ExprForm, Form, Parsed, countAt, sortOf}
+use Rattle.spec_text.specs.Lines.{Form, sortOf}
 use Rattle.spec_text.specs.Reading.{Rest, Read, got, Due, line, tooDeep, andThen, globals, stmts, stmt, deepest}
 use Rattle.read_tree.specs.Rows.{Row, row, rowsT}
-use Rattle.read_tree.specs.declared.Children.{Children}
+use Rattle.read_words.specs.declared.Children.{Children}
+use Rattle.read_words.specs.ChildrenModel.{childrenIn}
 
 -- `run s n d`: n lines of sort s are due, with d levels left for each; `close i`: what is below row i has been read
 pub data Entry : Type 0 where
@@ -21,38 +22,6 @@ pub data Entry : Type 0 where
 abbrev pub due : ℕ → ℕ → ℕ → List Entry → List Entry
 due s zero d more = more
 due s (suc n) d more = run s (suc n) d ∷ more
-
--- ---- the children of a line: how many of each sort, in the order in which they are due
-abbrev children : ℕ → ℕ → ℕ → ℕ → ℕ → ℕ → Children
-children e s l o m a = record { exprs = e; stmts = s; elifs = l; others = o; methods = m; attrs = a }
-
-abbrev pub exprForm : ExprForm → ℕ → Children
-exprForm ExprForm.var c = children 0 0 0 0 0 0
-exprForm (ExprForm.fixed k) c = children k 0 0 0 0 0
-exprForm (ExprForm.counted k) c = children (k * c) 0 0 0 0 0
-exprForm (ExprForm.access k) c = children k 0 0 0 0 0
-exprForm ExprForm.tuple c = children c 0 0 0 0 0
-exprForm ExprForm.call c = children (suc c) 0 0 0 0 0
-exprForm ExprForm.lambda c = children 1 0 0 0 0 0
-
--- by the form, and the counts of the line (what the first line has due is on the agenda from the start)
-abbrev pub childrenOf : Form → ℕ → ℕ → ℕ → Children
-childrenOf Form.tree c₀ c₁ c₂ = children 0 0 0 0 0 0
-childrenOf Form.global c₀ c₁ c₂ = children 0 0 0 0 0 0
-childrenOf Form.elif c₀ c₁ c₂ = children 1 c₀ 0 0 0 0
-childrenOf Form.method c₀ c₁ c₂ = children 0 c₀ 0 0 0 0
-childrenOf Form.attr c₀ c₁ c₂ = children 1 0 0 0 0 0
-childrenOf (Form.stmt (StmtForm.plain k)) c₀ c₁ c₂ = children k 0 0 0 0 0
-childrenOf (Form.stmt StmtForm.assign) c₀ c₁ c₂ = children 2 0 0 0 0 0
-childrenOf (Form.stmt StmtForm.while) c₀ c₁ c₂ = children 1 c₀ 0 0 0 0
-childrenOf (Form.stmt StmtForm.if) c₀ c₁ c₂ = children 1 c₀ c₁ c₂ 0 0
-childrenOf (Form.stmt StmtForm.for) c₀ c₁ c₂ = children 1 c₀ 0 0 0 0
-childrenOf (Form.stmt StmtForm.def) c₀ c₁ c₂ = children 0 c₀ 0 0 0 0
-childrenOf (Form.stmt StmtForm.class) c₀ c₁ c₂ = children 0 0 0 0 c₀ c₁
-childrenOf (Form.expr f) c₀ c₁ c₂ = exprForm f c₀
-
-abbrev pub childrenIn : Parsed → Children
-childrenIn p = childrenOf (p .form) (countAt 0 p) (countAt 1 p) (countAt 2 p)
 
 -- all of them, with d levels left, and then what else there is
 abbrev pub dueBelow : Children → ℕ → List Entry → List Entry

@@ -6,15 +6,13 @@ use mathlib.Core.Path.{_≡_}
 use lib.Dec.{eqb, leb, ltb}
 use lib.ListN.{length, getD, drop}
 use Rattle.spec_text.specs.Bytes.{Bytes}
-use Rattle.spec_text.specs.Lines.{words}
 use Rattle.spec_text.specs.Reading.{Rest, mostLines, mostParams, deepest}
 use Rattle.read_line.specs.LineModel.{lineAt}
-use Rattle.read_words.specs.WordsModel.{noWord}
 use Rattle.read_line.specs.declared.Line.{Line}
 use Rattle.work_rows.specs.Layout.{put, dueBase, kindAt}
 use Rattle.read_names.specs.ChainsModel.{placed, added, cleared}
-use Rattle.read_tree.specs.AgendaModel.{childrenOf}
-use Rattle.read_tree.specs.declared.Children.{Children}
+use Rattle.read_words.specs.ChildrenModel.{childrenBy}
+use Rattle.read_words.specs.declared.Children.{Children}
 use Rattle.read_tree.specs.declared.Due.{Due}
 use Rattle.read_tree.specs.declared.Progress.{Progress}
 use Rattle.read_tree.specs.declared.Read.{Read}
@@ -27,10 +25,6 @@ refusalOf ended l sort n d =
 
 unfoldable pub dueAt : Bytes → ℕ → ℕ → ℕ → ℕ → Due
 dueAt text at sort n d = record { refusal = refusalOf (leb (length text) at) (lineAt text at) sort n d; line = lineAt text at }
-
--- ---- the lines due below a line, by its kind and its counts
-unfoldable pub childrenBy : ℕ → ℕ → ℕ → ℕ → Children
-childrenBy kind a b c = childrenOf (getD words kind noWord .form) a b c
 
 -- ---- the stack: an entry is sort + 8 * levels + 1024 * count, or 7 + 1024 * row to close a row
 pub record Stack : Type 0 where
@@ -144,7 +138,3 @@ pub record Bounded (text : Bytes) (s : Progress) : Type 0 where
 
 abbrev pub left : Bytes → Progress → ℕ
 left text s = s .top + 8 * (length text - s .at)
-
--- few lines are due below a line
-pub record Few (c : Children) : Type 0 where
-  pub few : c .exprs + (c .stmts + (c .elifs + (c .others + (c .methods + c .attrs)))) ≤ 16_384

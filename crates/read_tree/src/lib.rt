@@ -1,7 +1,7 @@
 // Reads a tree text into rows, or refuses it. An agenda in the work buffer says which lines are due, so nothing recurses: each turn
 // takes one line, writes its row, and puts the lines due below it on the agenda.
 use read_line::Line;
-use spec_text::line_kind;
+use read_words::Children;
 use spec_text::refusal;
 use spec_text::sort;
 use work_rows::DUE_BASE;
@@ -12,7 +12,8 @@ ghost use lib.ListN.{length};
 ghost use Rattle.spec_text.specs.Reading.{reading, ended};
 ghost use Rattle.read_tree.specs.AgendaModel.{after};
 ghost use Rattle.read_tree.specs.Laid.{Answers, skip};
-ghost use Rattle.read_tree.specs.MachineModel.{refusalOf, dueAt, childrenBy, stack, pushed, pushedClose, pushedBelow, isLeaf, pushedDue, lessened, rowWritten, rowClosed, Machine, machine, taken, turnOf, Turns, answerAt, restAt, Bounded, left, Few};
+ghost use Rattle.read_tree.specs.MachineModel.{refusalOf, dueAt, stack, pushed, pushedClose, pushedBelow, isLeaf, pushedDue, lessened, rowWritten, rowClosed, Machine, machine, taken, turnOf, Turns, answerAt, restAt, Bounded, left};
+ghost use Rattle.read_words.specs.ChildrenModel.{Few};
 
 // The most bytes of a text, the most lines after the first, the deepest line, the shortest work buffer, the most parameters.
 const LONGEST_TEXT: usize = 65536;
@@ -46,16 +47,6 @@ pub struct Progress {
     pub rows: usize,
     pub top: usize,
     pub refusal: usize,
-}
-
-// How many lines of each sort are due below a line, in their order.
-pub struct Children {
-    pub exprs: usize,
-    pub stmts: usize,
-    pub elifs: usize,
-    pub others: usize,
-    pub methods: usize,
-    pub attrs: usize,
 }
 
 // A line that is due, or its refusal.
@@ -104,57 +95,6 @@ fn line_due(text: &[u8], at: usize, sort: usize, n: usize, d: usize) -> Due
     Due {
         refusal: refusal(text.len() <= at, l, sort, n, d),
         line: l,
-    }
-}
-
-// The lines due below a line of a kind, by its counts.
-fn children_of(kind: usize, a: usize, b: usize, c: usize) -> Children
-    requires { ⌜ a < 4294967296 ⌝ }
-    ensures { λ r. ⌜ r ≡ childrenBy kind a b c ⌝ }
-{
-    match kind {
-        line_kind::DEF | line_kind::METHOD => each(0, a, 0, 0, 0, 0),
-        line_kind::ASSIGN | line_kind::BIN | line_kind::INDEX => each(2, 0, 0, 0, 0, 0),
-        line_kind::IF => each(1, a, b, c, 0, 0),
-        line_kind::ELIF | line_kind::WHILE | line_kind::FOR => each(1, a, 0, 0, 0, 0),
-        line_kind::RETURN
-        | line_kind::EXPR
-        | line_kind::ATTR
-        | line_kind::UN
-        | line_kind::GET
-        | line_kind::LAMBDA => each(1, 0, 0, 0, 0, 0),
-        line_kind::CLASS => each(0, 0, 0, 0, a, b),
-        line_kind::CALL => each(1 + a, 0, 0, 0, 0, 0),
-        line_kind::LIST | line_kind::TUPLE | line_kind::SET | line_kind::TREESET => each(
-            a,
-            0,
-            0,
-            0,
-            0,
-            0,
-        ),
-        line_kind::DICT => each(2 * a, 0, 0, 0, 0, 0),
-        _ => each(0, 0, 0, 0, 0, 0),
-    }
-}
-
-fn each(
-    exprs: usize,
-    stmts: usize,
-    elifs: usize,
-    others: usize,
-    methods: usize,
-    attrs: usize,
-) -> Children
-    ensures { λ r. ⌜ r ≡ record { exprs = exprs; stmts = stmts; elifs = elifs; others = others; methods = methods; attrs = attrs } ⌝ }
-{
-    Children {
-        exprs: exprs,
-        stmts: stmts,
-        elifs: elifs,
-        others: others,
-        methods: methods,
-        attrs: attrs,
     }
 }
 
@@ -266,7 +206,7 @@ fn take(text: &[u8], work: &mut [u32], s: Progress, e: usize) -> Progress
     let l = x.line;
     write_row(text, work, s.rows, s.at, l);
     let t = less(work, s.top, e);
-    let c = children_of(
+    let c = read_words::children_of(
         l.kind,
         work_rows::wide(l.count0),
         work_rows::wide(l.count1),

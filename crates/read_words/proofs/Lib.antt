@@ -2,3 +2,5 @@
 pub mod Keys
 pub mod WordPlaces
 pub mod Letters
+pub mod OneByOne
+pub mod Few

@@ -1,2 +1,3 @@
 -- The words of the table.
 pub mod WordsModel
+pub mod ChildrenModel

@@ -1,9 +1,11 @@
-// The table of words in code: which word a field is, and the fields of its line.
+// The table of words in code: which word a field is, the fields of its line, and the lines due below it.
 use read_fields::Cursor;
 use spec_text::line_kind;
 use spec_text::sort;
 ghost use mathlib.Core.Path.{_≡_};
+ghost use Prim.Native.Nat.{_<_};
 ghost use Rattle.read_words.specs.WordsModel.{noKind, kindFrom, orWord, shapeOf};
+ghost use Rattle.read_words.specs.ChildrenModel.{childrenBy};
 
 // A word's place in the table.
 pub struct Kind {
@@ -18,6 +20,16 @@ pub struct Shape {
     pub counts: usize,
     pub params: bool,
     pub sort: usize,
+}
+
+// How many lines of each sort are due below a line, in their order.
+pub struct Children {
+    pub exprs: usize,
+    pub stmts: usize,
+    pub elifs: usize,
+    pub others: usize,
+    pub methods: usize,
+    pub attrs: usize,
 }
 
 // The kind that was found before, else the kind n where the field has the bytes of the word.
@@ -155,5 +167,56 @@ pub fn shape_of(kind: usize) -> Shape
         line_kind::DICT => row(true, false, 1, false, sort::EXPR),
         line_kind::LAMBDA => row(true, false, 0, true, sort::EXPR),
         _ => row(false, false, 0, false, sort::TREE),
+    }
+}
+
+// The lines due below a line of a kind, by its counts.
+pub fn children_of(kind: usize, a: usize, b: usize, c: usize) -> Children
+    requires { ⌜ a < 4294967296 ⌝ }
+    ensures { λ r. ⌜ r ≡ childrenBy kind a b c ⌝ }
+{
+    match kind {
+        line_kind::DEF | line_kind::METHOD => each(0, a, 0, 0, 0, 0),
+        line_kind::ASSIGN | line_kind::BIN | line_kind::INDEX => each(2, 0, 0, 0, 0, 0),
+        line_kind::IF => each(1, a, b, c, 0, 0),
+        line_kind::ELIF | line_kind::WHILE | line_kind::FOR => each(1, a, 0, 0, 0, 0),
+        line_kind::RETURN
+        | line_kind::EXPR
+        | line_kind::ATTR
+        | line_kind::UN
+        | line_kind::GET
+        | line_kind::LAMBDA => each(1, 0, 0, 0, 0, 0),
+        line_kind::CLASS => each(0, 0, 0, 0, a, b),
+        line_kind::CALL => each(1 + a, 0, 0, 0, 0, 0),
+        line_kind::LIST | line_kind::TUPLE | line_kind::SET | line_kind::TREESET => each(
+            a,
+            0,
+            0,
+            0,
+            0,
+            0,
+        ),
+        line_kind::DICT => each(2 * a, 0, 0, 0, 0, 0),
+        _ => each(0, 0, 0, 0, 0, 0),
+    }
+}
+
+fn each(
+    exprs: usize,
+    stmts: usize,
+    elifs: usize,
+    others: usize,
+    methods: usize,
+    attrs: usize,
+) -> Children
+    ensures { λ r. ⌜ r ≡ record { exprs = exprs; stmts = stmts; elifs = elifs; others = others; methods = methods; attrs = attrs } ⌝ }
+{
+    Children {
+        exprs: exprs,
+        stmts: stmts,
+        elifs: elifs,
+        others: others,
+        methods: methods,
+        attrs: attrs,
     }
 }

@@ -10,8 +10,7 @@ use lib.ListN.{getD}
 use borrow.Author.Tests.{leb-true}
 use Rattle.spec_text.specs.Lines.{StmtForm, ExprForm, Form, Word, words}
 use Rattle.spec_text.proofs.Lists.{test-at}
-use Rattle.read_tree.specs.AgendaModel.{childrenOf}
-use Rattle.read_tree.specs.MachineModel.{childrenBy, Few}
+use Rattle.read_words.specs.ChildrenModel.{childrenOf, childrenBy, Few}
 
 -- the table's own numbers
 abbrev small : Form → Bool

@@ -6,13 +6,12 @@ use mathlib.Core.Logic.{⊎-elim, inl, inr}
 use lib.ListN.{getD, List·getD-eq-default}
 use borrow.Author.Needs.{needs}
 use Rattle.spec_text.specs.Lines.{Word, words}
-use Rattle.read_tree.specs.declared.Children.{Children}
-use Rattle.read_tree.specs.AgendaModel.{childrenOf}
+use Rattle.read_words.specs.declared.Children.{Children}
+use Rattle.read_words.specs.ChildrenModel.{childrenOf, childrenBy}
 use Rattle.read_words.specs.WordsModel.{noWord}
-use Rattle.read_tree.specs.MachineModel.{childrenBy}
-use Rattle.read_tree.proofs.FirstTest.{From, within}
-use Rattle.read_tree.proofs.children_of.Statement.{statement}
-use Rattle.read_tree.proofs.children_of.Tie as tie
+use Rattle.read_words.proofs.OneByOne.{From, within}
+use Rattle.read_words.proofs.children_of.Statement.{statement}
+use Rattle.read_words.proofs.children_of.Tie as tie
 
 each-requires : tie.Need-each-requires
 each-requires c κs = search needs
