@@ -20,8 +20,8 @@ use Rattle.spec_faults.specs.Faults.{Fault, byPlace, faults}
 use Rattle.spec_faults.proofs.Lists.{All, none, also, all-append, all-map, all-keep}
 use Rattle.spec_faults.proofs.Deduped.{faults-deduped, dedupe-all}
 use Rattle.spec_answers.specs.Answers.{nthFault}
-use Rattle.read_tree.specs.Rows.{Row, rowsT}
-use Rattle.read_tree.proofs.Lengths.{rows-length}
+use Rattle.work_rows.specs.Rows.{Row, rowsT}
+use Rattle.work_rows.proofs.Lengths.{rows-length}
 use Rattle.read_row.proofs.Theorems.{rowAt, tree-worded, rows-again}
 use Rattle.proof_order.specs.Shown.{Shows}
 use Rattle.proof_order.proofs.Right.{Way, atRow, atCall, atLambda, inClass, Right}

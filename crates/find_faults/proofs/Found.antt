@@ -11,9 +11,9 @@ use Rattle.spec_text.specs.Reading.{Reading, tree, refusal, reading}
 use Rattle.spec_text.proofs.Theorems.{tree-lines, text-length}
 use Rattle.spec_faults.specs.Faults.{faults}
 use Rattle.spec_faults.proofs.Theorems.{at-most-lines}
-use Rattle.read_tree.specs.Rows.{rowsT}
+use Rattle.work_rows.specs.Rows.{rowsT}
 use Rattle.read_tree.specs.Laid.{Holds, Answers}
-use Rattle.read_tree.proofs.Lengths.{rows-length}
+use Rattle.work_rows.proofs.Lengths.{rows-length}
 use Rattle.read_tree.specs.declared.Read.the-variants as R
 use Rattle.work_marks.proofs.Writes.{Words, Kept}
 use Rattle.read_row.specs.RowModel.{lineOfRow}

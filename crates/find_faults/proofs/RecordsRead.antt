@@ -18,7 +18,7 @@ use Rattle.read_row.specs.RowModel.{lineOfRow}
 use Rattle.report_order.specs.OrderModel.{stored, entryAt}
 use Rattle.report_records.specs.RecordsModel.{ofLines, recordOf, numbers}
 use Rattle.proof_order.specs.Shown.{Shows, Pairs, lineIn, ofEntry, rowEntry}
-use Rattle.read_tree.specs.Rows.{Row}
+use Rattle.work_rows.specs.Rows.{Row}
 use Rattle.find_faults.proofs.EntriesRead.{entry-stored, line-stored}
 
 -- ---- one for one

@@ -15,7 +15,7 @@ use Rattle.spec_text.proofs.LineParts.{IsNameOf}
 use Rattle.spec_text.proofs.Theorems.{tree-parts}
 use Rattle.read_names.specs.Names.{earliest}
 use Rattle.read_names.proofs.Earliest.{First, Absent, sought, earliest-first, earliest-absent}
-use Rattle.read_tree.specs.Rows.{rowsT}
+use Rattle.work_rows.specs.Rows.{rowsT}
 use Rattle.read_tree.specs.Laid.{Holds, nameIn}
 use Rattle.read_tree.proofs.Theorems.{row-of-name}
 use Rattle.work_marks.specs.MarksModel.{lambdaEnd}

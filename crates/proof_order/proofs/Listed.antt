@@ -15,7 +15,7 @@ use Rattle.spec_faults.proofs.Lists.{All, none, also, and-split}
 use Rattle.spec_faults.proofs.Once.{placed}
 use Rattle.work_rows.specs.Layout.{kindAt}
 use Rattle.work_marks.specs.MarksModel.{linesBelow, afterRow, slotAt}
-use Rattle.read_tree.specs.Rows.{Row}
+use Rattle.work_rows.specs.Rows.{Row}
 use Rattle.read_tree.specs.Laid.{noRow}
 use Rattle.proof_walk.specs.Slots.{Key, keyOf, slotsFrom, keys}
 use Rattle.report_order.specs.declared.Around.{Around}

@@ -10,9 +10,9 @@ use lib.Dec.{eqb}
 use lib.ListN.{length, getD, length-append}
 use Rattle.spec_text.specs.Bytes.{Part}
 use Rattle.spec_text.specs.Tree.{Line, Expr, Exprs, Attrs, Stmt, Stmts, Methods, Tree, var, node, access, tuple, call, lambda, enil, econs, anil, acons, simple, assign, block, choice, for, def, class, snil, scons, mnil, mcons}
-use Rattle.read_tree.specs.Rows.{Row, row, globalRow, rowsE, rowsEs, rowsAs, rowsS, rowsSs, rowsMs, rowsT}
+use Rattle.work_rows.specs.Rows.{Row, row, globalRow, rowsE, rowsEs, rowsAs, rowsS, rowsSs, rowsMs, rowsT}
 use Rattle.read_tree.specs.Laid.{noRow}
-use Rattle.read_tree.proofs.Lengths.{Sized, both, sized-e, sized-es, sized-as, sized-ss, sized-ms}
+use Rattle.work_rows.proofs.Lengths.{Sized, both, sized-e, sized-es, sized-as, sized-ss, sized-ms}
 use Rattle.read_row.specs.Worded.{NodeWord, lit, un, bin, list, set, treeset, dict, AccessWord, index, get, SimpleWord, break, continue, pass, return, expr, BlockWord, elif, while, WordedE, WordedEs, WordedAs, WordedS, WordedSs, WordedMs}
 use Rattle.proof_walk.specs.Table.{Here}
 use Rattle.proof_walk.proofs.PartRows.{head-row, here-tail}

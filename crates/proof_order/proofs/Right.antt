@@ -12,7 +12,7 @@ use Rattle.spec_text.specs.Tree.{Line}
 use Rattle.spec_faults.specs.Position.{Placed, Home, inModule, inDef, inMethod, Use, value, callee}
 use Rattle.spec_faults.specs.Faults.{Fault, faultAt, outermost, unless, unboundHere, undefinedHere, unbound, undefined, judgeRead, refusedAt, selfless, capture}
 use Rattle.spec_faults.proofs.Lists.{All, none, also}
-use Rattle.read_tree.specs.Rows.{Row}
+use Rattle.work_rows.specs.Rows.{Row}
 use Rattle.report_order.specs.OrderModel.{entry}
 use Rattle.proof_order.specs.Shown.{Shows, lineIn, ofEntry, rowEntry}
 use Rattle.proof_order.proofs.Reach.{wordIn, endIn, Free}

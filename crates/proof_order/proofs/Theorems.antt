@@ -12,8 +12,8 @@ use Rattle.spec_faults.proofs.Lists.{All}
 use Rattle.spec_faults.proofs.ListingWalk.{moduleEnv, startState}
 use Rattle.spec_faults.proofs.InTextOrder.{rawSs}
 use Rattle.spec_faults.proofs.Deduped.{dedupe, faults-deduped, dedupe-all}
-use Rattle.read_tree.specs.Rows.{globalRow, rowsSs, rowsT}
-use Rattle.read_tree.proofs.Lengths.{Sized, rows-length}
+use Rattle.work_rows.specs.Rows.{globalRow, rowsSs, rowsT}
+use Rattle.work_rows.proofs.Lengths.{Sized, rows-length}
 use Rattle.read_row.specs.Worded.{WordedSs}
 use Rattle.proof_walk.specs.Table.{Table, Here}
 use Rattle.proof_walk.specs.Slots.{slotsFrom, keys}

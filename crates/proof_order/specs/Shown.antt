@@ -6,7 +6,7 @@ use lib.ListN.{length, getD}
 use Rattle.spec_text.specs.Bytes.{noPart}
 use Rattle.spec_text.specs.Tree.{Line}
 use Rattle.spec_faults.specs.Faults.{Fault}
-use Rattle.read_tree.specs.Rows.{Row}
+use Rattle.work_rows.specs.Rows.{Row}
 use Rattle.read_tree.specs.Laid.{noRow}
 
 abbrev pub lineIn : List Row → ℕ → Line

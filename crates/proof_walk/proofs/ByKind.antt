@@ -12,7 +12,7 @@ use Rattle.spec_text.specs.Bytes.{Bytes, Part}
 use Rattle.spec_text.specs.Tree.{Stmt, simple, assign, block, choice, for, def, class, lenS}
 use Rattle.spec_faults.specs.Faults.{lacksSelf}
 use Rattle.work_rows.specs.Layout.{rowsMost, kindAt, numberAt}
-use Rattle.read_tree.specs.Rows.{Row, rowsS}
+use Rattle.work_rows.specs.Rows.{Row, rowsS}
 use Rattle.work_marks.specs.MarksModel.{afterRow, putSlot}
 use Rattle.work_marks.specs.LoopsModel.{rowsTo}
 use Rattle.work_marks.proofs.Loops.{rows-more}

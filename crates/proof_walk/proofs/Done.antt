@@ -12,7 +12,7 @@ use Rattle.spec_faults.specs.Position.{inDef}
 use Rattle.spec_faults.specs.Faults.{Fault, capture}
 use Rattle.spec_faults.proofs.ListingWalk.{State, Env}
 use Rattle.spec_faults.proofs.Deduped.{dedupe, seenAfter, seen-append, dedupe-append}
-use Rattle.read_tree.specs.Rows.{Row}
+use Rattle.work_rows.specs.Rows.{Row}
 use Rattle.work_marks.specs.MarksModel.{lambdaEnd, blockEnd, slotAt, stampAt, putSlot, raisedBlock}
 use Rattle.work_marks.proofs.Writes.{Words, Kept, kept-refl, kept-trans, slot-same, slot-other, slot-lambda, slot-block, slot-stamp, kept-slot, words-slot, raised-block-same, raised-block-other, raised-block-lambda, raised-block-slot, raised-block-stamp, kept-raised-block, words-raised-block}
 use Rattle.walk_scopes.specs.ScopesModel.{defined}

@@ -18,8 +18,8 @@ use Rattle.spec_faults.proofs.ListingWalk.{State, Env}
 use Rattle.spec_faults.proofs.InTextOrder.{rawE, rawEs}
 use Rattle.spec_faults.proofs.Deduped.{dedupe, seenAfter}
 use Rattle.work_rows.specs.Layout.{rowsMost, kindAt, numberAt}
-use Rattle.read_tree.specs.Rows.{Row, row, rowsE, rowsEs}
-use Rattle.read_tree.proofs.Lengths.{sized-e}
+use Rattle.work_rows.specs.Rows.{Row, row, rowsE, rowsEs}
+use Rattle.work_rows.proofs.Lengths.{sized-e}
 use Rattle.work_marks.specs.MarksModel.{lambdaEnd, blockEnd, slotAt, stampAt, afterRow}
 use Rattle.work_marks.specs.LoopsModel.{rowsTo}
 use Rattle.work_marks.proofs.Writes.{Kept}

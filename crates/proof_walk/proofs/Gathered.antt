@@ -11,8 +11,8 @@ use lib.Dec.{eqb, leb}
 use Rattle.spec_text.specs.Bytes.{Bytes}
 use Rattle.spec_text.specs.Tree.{Line, Expr, Exprs, Stmt, Stmts, var, node, access, tuple, call, lambda, enil, econs, simple, assign, block, choice, for, def, class, snil, scons, lenE, lenEs, lenS, lenSs}
 use Rattle.work_rows.specs.Layout.{kindAt, numberAt}
-use Rattle.read_tree.specs.Rows.{Row, row, rowsE, rowsEs, rowsS, rowsSs}
-use Rattle.read_tree.proofs.Lengths.{sized-e, sized-s, sized-ss}
+use Rattle.work_rows.specs.Rows.{Row, row, rowsE, rowsEs, rowsS, rowsSs}
+use Rattle.work_rows.proofs.Lengths.{sized-e, sized-s, sized-ss}
 use Rattle.work_marks.specs.MarksModel.{afterRow}
 use Rattle.work_marks.proofs.Loops.{rows-end}
 use Rattle.walk_own_names.specs.OwnNamesModel.{never, noted, rowNoted, nextNoted, allNoted}

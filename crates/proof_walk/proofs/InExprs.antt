@@ -15,7 +15,7 @@ use Rattle.spec_faults.specs.Faults.{Fault, capture}
 use Rattle.spec_faults.proofs.Lists.{Each, each-map, any-quiet}
 use Rattle.spec_faults.proofs.ListingWalk.{State, Env}
 use Rattle.spec_faults.proofs.Deduped.{sameCapture, dedupe, seenAfter, dedupe-append, seen-append}
-use Rattle.read_tree.specs.Rows.{Row}
+use Rattle.work_rows.specs.Rows.{Row}
 use Rattle.work_marks.specs.MarksModel.{lambdaEnd, blockEnd, slotAt, stampAt}
 use Rattle.work_marks.proofs.Writes.{Words, Kept, kept-refl, kept-trans}
 use Rattle.walk_scopes.specs.declared.ScopeStack.{ScopeStack}

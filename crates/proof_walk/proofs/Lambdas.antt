@@ -16,7 +16,7 @@ use Rattle.spec_faults.proofs.Lists.{mem-append}
 use Rattle.spec_faults.proofs.ListingWalk.{State, Env, withParams}
 use Rattle.spec_faults.proofs.Deduped.{seenAfter}
 use Rattle.read_names.specs.ChainsModel.{lookup}
-use Rattle.read_tree.specs.Rows.{Row}
+use Rattle.work_rows.specs.Rows.{Row}
 use Rattle.work_marks.specs.MarksModel.{lambdaEnd, blockEnd, slotAt, stampAt, raisedBlock, raisedLambda}
 use Rattle.work_marks.proofs.Writes.{Words, Kept, kept-refl, kept-trans, raised-lambda-same, raised-lambda-other, raised-lambda-block, raised-lambda-slot, raised-lambda-stamp, kept-raised-lambda, words-raised-lambda}
 use Rattle.walk_scopes.specs.ScopesModel.{aDef, owns, pushedLambda, defined}

@@ -16,7 +16,7 @@ use Rattle.spec_faults.specs.Faults.{Fault}
 use Rattle.spec_faults.proofs.Lists.{mem-append}
 use Rattle.spec_faults.proofs.ListingWalk.{State, Env, entered}
 use Rattle.spec_faults.proofs.Deduped.{seenAfter, seen-append}
-use Rattle.read_tree.specs.Rows.{Row, rowsS}
+use Rattle.work_rows.specs.Rows.{Row, rowsS}
 use Rattle.work_marks.specs.MarksModel.{lambdaEnd, blockEnd, slotAt, stampAt}
 use Rattle.work_marks.proofs.Writes.{Words, Kept, kept-refl, kept-trans}
 use Rattle.walk_scopes.specs.ScopesModel.{aDef, pushed}

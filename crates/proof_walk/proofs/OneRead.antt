@@ -16,7 +16,7 @@ use Rattle.spec_faults.specs.Faults.{Fault, faultAt, outermost, unbound, undefi
 use Rattle.spec_faults.proofs.ListingWalk.{State, Env}
 use Rattle.spec_faults.proofs.InTextOrder.{rawE}
 use Rattle.spec_faults.proofs.Deduped.{dedupe, seenAfter}
-use Rattle.read_tree.specs.Rows.{Row}
+use Rattle.work_rows.specs.Rows.{Row}
 use Rattle.work_marks.specs.MarksModel.{lambdaEnd, blockEnd, slotAt, stampAt, raisedLambda, putSlot}
 use Rattle.work_marks.proofs.Writes.{kept-trans, raised-lambda-same, raised-lambda-other, raised-lambda-block, raised-lambda-slot, raised-lambda-stamp, kept-raised-lambda, words-raised-lambda, slot-same, slot-other, slot-lambda, slot-block, slot-stamp, kept-slot, words-slot}
 use Rattle.walk_scopes.specs.ScopesModel.{aDef, module′, isDefined}

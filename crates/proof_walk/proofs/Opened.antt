@@ -16,7 +16,7 @@ use Rattle.spec_text.specs.Tree.{Line, Stmts, def, lenS, lenSs}
 use Rattle.spec_text.proofs.Lists.{same-eq, same-false}
 use Rattle.work_rows.specs.Layout.{put, rowsMost, headBase, dueBase}
 use Rattle.read_names.specs.ChainsModel.{lookup}
-use Rattle.read_tree.specs.Rows.{Row, row, rowsS}
+use Rattle.work_rows.specs.Rows.{Row, row, rowsS}
 use Rattle.work_marks.specs.MarksModel.{lambdaEnd, blockEnd, slotAt, stampAt, putStamp, raisedBlock}
 use Rattle.work_marks.proofs.Writes.{Words, Kept, kept-refl, kept-trans, raised-block-same, raised-block-other, raised-block-lambda, raised-block-slot, raised-block-stamp, kept-raised-block, words-raised-block, stamp-apart}
 use Rattle.walk_scopes.specs.declared.ScopeStack.{ScopeStack}

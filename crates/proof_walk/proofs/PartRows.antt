@@ -15,9 +15,9 @@ use Rattle.read_fields.specs.FieldsModel.{fieldAt, hashOf}
 use Rattle.work_rows.specs.Layout.{rowsMost, kindAt, numberAt, offsetAt, sameAt}
 use Rattle.read_names.proofs.Turns.{link-falls}
 use Rattle.read_names.specs.ChainsModel.{headAt, linkAt, follow, lookup}
-use Rattle.read_tree.specs.Rows.{Row, row, rowsE, rowsS}
+use Rattle.work_rows.specs.Rows.{Row, row, rowsE, rowsS}
 use Rattle.read_tree.specs.Laid.{noRow}
-use Rattle.read_tree.proofs.Lengths.{Sized}
+use Rattle.work_rows.proofs.Lengths.{Sized}
 use Rattle.work_marks.specs.MarksModel.{linesBelow, afterRow}
 use Rattle.work_marks.proofs.Writes.{Kept, kept-kind, kept-number}
 use Rattle.read_row.specs.RowModel.{paramsOf, paramsAt}

@@ -11,7 +11,7 @@ use Rattle.spec_text.specs.Bytes.{Bytes, mem, same, any}
 use Rattle.spec_faults.specs.Position.{Placed, Home, inModule, inDef, inMethod}
 use Rattle.spec_faults.specs.Faults.{Fault, outermost}
 use Rattle.spec_faults.proofs.ListingWalk.{State, Env}
-use Rattle.read_tree.specs.Rows.{Row}
+use Rattle.work_rows.specs.Rows.{Row}
 use Rattle.work_marks.specs.MarksModel.{lambdaEnd, blockEnd, slotAt, stampAt}
 use Rattle.work_marks.proofs.Writes.{Words}
 use Rattle.walk_scopes.specs.declared.ScopeStack.{ScopeStack}

@@ -15,8 +15,8 @@ use Rattle.spec_faults.proofs.ListingWalk.{State, Env, assigning, naming, enter
 use Rattle.spec_faults.proofs.InTextOrder.{rawE, rawEs, rawT, rawS, rawSs, rawMs}
 use Rattle.spec_faults.proofs.Deduped.{seenAfter}
 use Rattle.work_rows.specs.Layout.{kindAt}
-use Rattle.read_tree.specs.Rows.{Row, row, rowsE, rowsEs, rowsAs, rowsS, rowsSs, rowsMs}
-use Rattle.read_tree.proofs.Lengths.{sized-e, sized-s, sized-ss, sized-ms}
+use Rattle.work_rows.specs.Rows.{Row, row, rowsE, rowsEs, rowsAs, rowsS, rowsSs, rowsMs}
+use Rattle.work_rows.proofs.Lengths.{sized-e, sized-s, sized-ss, sized-ms}
 use Rattle.work_marks.specs.MarksModel.{afterRow, stampAt, putSlot}
 use Rattle.work_marks.proofs.Loops.{rows-end}
 use Rattle.work_marks.proofs.Writes.{raised-block-stamp}

@@ -15,8 +15,8 @@ use Rattle.spec_faults.specs.Faults.{Fault, refusedAt}
 use Rattle.spec_faults.proofs.ListingWalk.{State, Env, afterT, afterTs}
 use Rattle.spec_faults.proofs.InTextOrder.{rawEs, rawT, rawTs}
 use Rattle.work_rows.specs.Layout.{kindAt, numberAt}
-use Rattle.read_tree.specs.Rows.{Row, row, rowsE, rowsEs}
-use Rattle.read_tree.proofs.Lengths.{sized-e}
+use Rattle.work_rows.specs.Rows.{Row, row, rowsE, rowsEs}
+use Rattle.work_rows.proofs.Lengths.{sized-e}
 use Rattle.work_marks.specs.MarksModel.{afterRow, putSlot}
 use Rattle.work_marks.specs.LoopsModel.{rowsTo}
 use Rattle.work_marks.proofs.Loops.{rows-more}

@@ -10,8 +10,8 @@ use Rattle.spec_text.specs.Tree.{Tree, lenSs, firstLine}
 use Rattle.spec_faults.proofs.ListingWalk.{moduleEnv, startState}
 use Rattle.spec_faults.proofs.InTextOrder.{rawSs}
 use Rattle.spec_faults.proofs.Deduped.{dedupe}
-use Rattle.read_tree.specs.Rows.{rowsT}
-use Rattle.read_tree.proofs.Lengths.{rows-length}
+use Rattle.work_rows.specs.Rows.{rowsT}
+use Rattle.work_rows.proofs.Lengths.{rows-length}
 use Rattle.work_marks.specs.MarksModel.{lambdaEnd, slotAt}
 use Rattle.work_marks.proofs.Writes.{Words, Kept, kept-trans}
 use Rattle.read_row.specs.Worded.{Somes, WordedSs}

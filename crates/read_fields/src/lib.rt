@@ -2,7 +2,7 @@
 // back a cursor that is not ok, which takes nothing any more, so that a line's reader needs no branch.
 ghost use mathlib.Core.Path.{_≡_};
 ghost use Prim.Native.Nat.{_+_, _<_};
-ghost use lib.ListN.{length, getD};
+ghost use lib.ListN.{getD};
 ghost use Rattle.spec_text.specs.Bytes.{same, isDigit, isNameByte};
 ghost use Rattle.read_fields.specs.FieldsModel.{isEnd, fieldAt, refused, startAt, fieldFrom, numberFrom, hashOf, nameFrom, mix, endFrom, endsAt, pastEnd, noNumber, noName};
 

@@ -9,7 +9,6 @@ use Rattle.spec_text.specs.Bytes.{Bytes, Part}
 use Rattle.spec_text.specs.Lines.{Cut}
 use Rattle.read_fields.specs.FieldsModel.{isEnd, fieldAt, endByte, refused, past, takes}
 use Rattle.read_fields.specs.declared.Cursor.{Cursor}
-use Rattle.spec_text.proofs.Lists.{and-split}
 use Rattle.read_line.proofs.Cut.{toCome, fieldOf, before, stop, unroll, where-ok}
 
 -- the fields that were taken, and the cursor past them

@@ -1,12 +1,11 @@
 -- The steps of a cursor through a line: its word, its span, its name, its counts, its parameters, its end.
-use Prim.Native.Nat.{ℕ, suc}
+use Prim.Native.Nat.{ℕ}
 use mathlib.Core.Bool.{Bool, true, false, cond, _&&_}
-use mathlib.Core.List.{List, [], _∷_}
 use lib.Dec.{ltb}
-use lib.ListN.{length, getD, drop}
-use Rattle.spec_text.specs.Bytes.{Bytes, Part, same, all, isName, largestSpan, largestCount}
-use Rattle.spec_text.specs.Lines.{Word, words, Form, Cut, cut, sortOf}
-use Rattle.read_fields.specs.FieldsModel.{fieldAt, refused, startAt, past, takes, numberFrom, nameFrom, endFrom}
+use lib.ListN.{length, drop}
+use Rattle.spec_text.specs.Bytes.{Bytes, Part, all, isName, largestSpan, largestCount}
+use Rattle.spec_text.specs.Lines.{Cut, cut}
+use Rattle.read_fields.specs.FieldsModel.{refused, startAt, numberFrom, nameFrom, endFrom}
 use Rattle.read_fields.specs.declared.Cursor.{Cursor}
 use Rattle.read_fields.specs.declared.Number.{Number}
 use Rattle.read_fields.specs.declared.Name.{Name}

@@ -15,7 +15,7 @@ use Rattle.spec_text.specs.Lines.{Form, Cut, cut, Parsed, parse}
 use Rattle.spec_text.specs.Reading.{mostLines, mostParams, Rest, Read, got, refused, andThen, Due, withinLimits, limited, dueHere, formed, tooDeep, line}
 use Rattle.spec_text.proofs.Lists.{and-split}
 use Rattle.spec_text.proofs.LineParts.{cut-in, ParsedFits, Found, cut-found}
-use Rattle.read_tree.proofs.Sorts.{Fits, fits-some, fits-none, Sorts}
+use Rattle.read_agenda.proofs.Sorts.{Fits, fits-some, fits-none, Sorts}
 use Rattle.read_row.specs.RowModel.{lineStart}
 use Rattle.read_row.proofs.OnLine.{cut-next}
 use Rattle.read_row.proofs.Runs.{cutAt, Stands}

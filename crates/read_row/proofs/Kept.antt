@@ -13,7 +13,7 @@ use Rattle.read_line.specs.LineModel.{lineAt, cutLine, numbersOf}
 use Rattle.read_line.specs.declared.Line.{Line as Numbers}
 use Rattle.work_rows.specs.Layout.{kindAt, offsetAt, numberAt}
 use Rattle.read_names.specs.Names.{earliest}
-use Rattle.read_tree.specs.Rows.{Row}
+use Rattle.work_rows.specs.Rows.{Row}
 use Rattle.read_tree.specs.Laid.{Holds, numberOf, nameIn, startOf, noRow}
 use Rattle.read_tree.proofs.ParsedFacts.{ParsedFacts, parsed-facts}
 use Rattle.read_row.specs.RowModel.{lineStart, paramsOf, lineOfRow}

@@ -12,7 +12,7 @@ use Rattle.spec_text.specs.Bytes.{Bytes}
 use Rattle.spec_text.specs.Tree.{Line}
 use Rattle.spec_text.specs.Lines.{Cut, cut, Parsed, parse}
 use Rattle.spec_text.proofs.LineParts.{ParsedFits}
-use Rattle.read_tree.specs.Rows.{Row}
+use Rattle.work_rows.specs.Rows.{Row}
 use Rattle.read_tree.specs.Laid.{startOf, noRow}
 use Rattle.read_tree.proofs.CutText.{cut-skips}
 use Rattle.read_tree.proofs.Starts.{skip-next}

@@ -11,9 +11,9 @@ use Rattle.spec_text.specs.Reading.{tree, reading}
 use Rattle.spec_text.proofs.Theorems.{tree-lines}
 use Rattle.work_rows.specs.Layout.{kindAt, numberAt}
 use Rattle.read_names.specs.Names.{earliest}
-use Rattle.read_tree.specs.Rows.{Row, rowsT}
+use Rattle.work_rows.specs.Rows.{Row, rowsT}
 use Rattle.read_tree.specs.Laid.{Holds, nameIn, noRow}
-use Rattle.read_tree.proofs.Lengths.{rows-length}
+use Rattle.work_rows.proofs.Lengths.{rows-length}
 use Rattle.read_row.specs.RowModel.{paramsOf}
 use Rattle.read_row.specs.Worded.{Some, WordedSs}
 use Rattle.read_row.proofs.Runs.{runs-again, runs-below}

@@ -12,11 +12,11 @@ use Rattle.spec_text.specs.Bytes.{Bytes}
 use Rattle.spec_text.specs.Tree.{Expr, Exprs, Attrs, Stmt, Stmts, Methods, Tree, block, for}
 use Rattle.spec_text.specs.Lines.{StmtForm, ExprForm, Form, Parsed, countAt, asStmt, asExpr, asSort}
 use Rattle.spec_text.specs.Reading.{longestText, shortestWork, deepest, Rest, Read, got, andThen, Due, line, exprs, attrs, stmts, methods, exprChildren, expr, stmtChildren, stmt, elif, methodsAt, attrsAt, globals, Reading, tree, refusal, ended, readTree, reading}
-use Rattle.read_tree.specs.Rows.{Row, row, rowsE, rowsEs, rowsAs, rowsS, rowsSs, rowsMs, globalRow, rowsT}
+use Rattle.work_rows.specs.Rows.{Row, row, rowsE, rowsEs, rowsAs, rowsS, rowsSs, rowsMs, globalRow, rowsT}
 use Rattle.read_tree.specs.Laid.{startOf}
-use Rattle.read_tree.proofs.Lengths.{Sized, sized-e, sized-es, sized-as, sized-ss, sized-ms, nothing as no-lines, both as one-after}
-use Rattle.read_tree.proofs.Sorts.{expr-sorts, stmt-sorts, elif-sorts, method-sorts, attr-sorts, global-sorts, tree-sorts}
-use Rattle.read_tree.proofs.Lined.{global-line}
+use Rattle.work_rows.proofs.Lengths.{Sized, sized-e, sized-es, sized-as, sized-ss, sized-ms, nothing as no-lines, both as one-after}
+use Rattle.read_agenda.proofs.Sorts.{expr-sorts, stmt-sorts, elif-sorts, method-sorts, attr-sorts, global-sorts, tree-sorts}
+use Rattle.read_agenda.proofs.Lined.{global-line}
 use Rattle.read_tree.proofs.CutText.{cut-skips}
 use Rattle.read_row.specs.RowModel.{lineStart}
 use Rattle.read_row.specs.Worded.{WordedE, WordedEs, WordedAs, WordedS, WordedSs, WordedMs}

@@ -15,11 +15,12 @@ use Rattle.read_names.specs.ChainsModel.{cleared}
 use Rattle.read_tree.specs.declared.Progress.{Progress}
 use Rattle.read_tree.specs.declared.Read.{Read as Answer}
 use Rattle.read_tree.specs.declared.Read.the-variants as R
-use Rattle.read_tree.specs.Rows.{rowsT}
+use Rattle.work_rows.specs.Rows.{rowsT}
 use Rattle.read_tree.specs.Laid.{skip, Holds, Answers}
-use Rattle.read_tree.specs.AgendaModel.{after}
-use Rattle.read_tree.specs.MachineModel.{Stack, stack, pushed, Machine, machine, progressTo, Turns, firstMachine, restAt, answerAt}
-use Rattle.read_tree.proofs.FirstTest.{holds, fails}
+use Rattle.read_agenda.specs.AgendaModel.{after}
+use Rattle.read_tree.specs.MachineModel.{Machine, machine, progressTo, Turns, firstMachine, restAt, answerAt}
+use Rattle.read_agenda.specs.StackModel.{Stack, stack, pushed}
+use Rattle.read_agenda.proofs.FirstTest.{holds, fails}
 use Rattle.read_tree.proofs.Machine.{Ends, machine-reads}
 
 -- ---- a tree has as many globals as its first line counts

@@ -14,10 +14,10 @@ use Rattle.spec_text.specs.Bytes.{Bytes}
 use Rattle.spec_text.proofs.Lists.{All}
 use Rattle.work_rows.specs.Layout.{put, nameBase, dueBase}
 use Rattle.read_names.proofs.Theorems.{other-names}
-use Rattle.read_tree.specs.Rows.{Row}
+use Rattle.work_rows.specs.Rows.{Row}
 use Rattle.read_tree.specs.Laid.{Holds, nameIn}
-use Rattle.read_tree.specs.AgendaModel.{Entry, run, close, due, dueBelow}
-use Rattle.read_tree.specs.MachineModel.{Stack, stack, runWord, closeWord, pushed, pushedClose, pushedBelow, lessened}
+use Rattle.read_agenda.specs.AgendaModel.{Entry, run, close, due, dueBelow}
+use Rattle.read_agenda.specs.StackModel.{Stack, stack, runWord, closeWord, pushed, pushedClose, pushedBelow, lessened}
 use Rattle.read_words.specs.ChildrenModel.{Few}
 use Rattle.read_words.specs.declared.Children.{Children}
 

@@ -16,7 +16,7 @@ use Rattle.read_tree.specs.declared.Due.{Due as Found}
 use Rattle.read_tree.specs.declared.Read.{Read as Answer}
 use Rattle.read_tree.specs.declared.Read.the-variants as R
 use Rattle.read_tree.specs.Laid.{skip, Answers}
-use Rattle.read_tree.specs.AgendaModel.{lineDue, after}
+use Rattle.read_agenda.specs.AgendaModel.{lineDue, after}
 use Rattle.read_tree.specs.MachineModel.{dueAt, restAt}
 use Rattle.read_tree.proofs.Same.{Same, read, refuse, same}
 

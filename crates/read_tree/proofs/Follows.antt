@@ -12,13 +12,14 @@ use Rattle.spec_text.specs.Tree.{Line}
 use Rattle.spec_text.specs.Lines.{Form, Parsed, countAt}
 use Rattle.spec_text.specs.Reading.{Rest, Read, got, refused, Due, tooDeep, line}
 use Rattle.read_line.specs.LineModel.{lineAt, numbersOf}
-use Rattle.read_tree.specs.Rows.{Row, row}
+use Rattle.work_rows.specs.Rows.{Row, row}
 use Rattle.read_tree.specs.Laid.{startOf}
-use Rattle.read_tree.specs.AgendaModel.{Entry, run, close, due, dueBelow, State, Phase, on, stopped, closeAt, ofSort, lineDue, lineOpened, turned, turn}
+use Rattle.read_agenda.specs.AgendaModel.{Entry, run, close, due, dueBelow, State, Phase, on, stopped, closeAt, ofSort, lineDue, lineOpened, turned, turn}
 use Rattle.read_words.specs.ChildrenModel.{childrenIn, childrenBy, Few}
-use Rattle.read_tree.specs.MachineModel.{Machine, machine, progressTo, Stack, stack, entryOf, turnBy, turnOf, taken, takenIf, onward, below, dueAt, restAt, runWord, closeWord, rowClosed, rowWritten, lessened, isLeaf, pushedDue}
+use Rattle.read_tree.specs.MachineModel.{Machine, machine, progressTo, entryOf, turnBy, turnOf, taken, takenIf, onward, below, dueAt, restAt, rowClosed, rowWritten}
+use Rattle.read_agenda.specs.StackModel.{Stack, stack, runWord, closeWord, lessened, isLeaf, pushedDue}
 use Rattle.read_words.specs.declared.Children.{Children}
-use Rattle.read_tree.proofs.Via.{at as state}
+use Rattle.read_agenda.proofs.Via.{at as state}
 use Rattle.read_tree.proofs.Same.{Known, Same, read, refuse, same}
 use Rattle.read_tree.proofs.Starts.{skip-next}
 use Rattle.read_words.proofs.Few.{few-by}

@@ -11,22 +11,10 @@ use Rattle.read_names.specs.ChainsModel.{placed, added}
 use Rattle.read_words.specs.declared.Children.{Children}
 use Rattle.read_tree.specs.declared.Due.{Due}
 use Rattle.read_tree.specs.declared.Progress.{Progress}
-use Rattle.read_tree.specs.MachineModel.{dueAt, Stack, stack, pushed, pushedClose, pushedBelow, pushedDue, lessened, rowWritten, rowClosed, Machine, machine, progressTo, onward, below, takenIf, taken, entryOf, turnBy, turnOf, Turns, done, more}
+use Rattle.read_tree.specs.MachineModel.{dueAt, rowWritten, rowClosed, Machine, machine, progressTo, onward, below, takenIf, taken, entryOf, turnBy, turnOf, Turns, done, more}
+use Rattle.read_agenda.specs.StackModel.{stack, pushedDue, lessened}
 use Rattle.read_words.specs.ChildrenModel.{childrenBy}
-use Rattle.read_tree.proofs.FirstTest.{holds, fails}
-
--- ---- seven pushes, each on what the one before leaves
-pub below-by : (i : ℕ) (c : Children) (d : ℕ) (x : Stack) {x₁ x₂ x₃ x₄ x₅ x₆ x₇ : Stack}
-    → x₁ ≡ pushedClose i x
-    → x₂ ≡ pushed 4 (c .attrs) d x₁
-    → x₃ ≡ pushed 3 (c .methods) d x₂
-    → x₄ ≡ pushed 5 (c .others) d x₃
-    → x₅ ≡ pushed 2 (c .elifs) d x₄
-    → x₆ ≡ pushed 5 (c .stmts) d x₅
-    → x₇ ≡ pushed 6 (c .exprs) d x₆
-    → x₇ ≡ pushedBelow i c d x
-unfolding pushedBelow
-below-by i c d x e₁ e₂ e₃ e₄ e₅ e₆ e₇ = rw (e₇, e₆, e₅, e₄, e₃, e₂, e₁)
+use Rattle.read_agenda.proofs.FirstTest.{holds, fails}
 
 -- ---- a row: its first number, and then where its line starts, or its name
 pub row-placed : (text : Bytes) (i at : ℕ) (l : Line) (w w₁ w₂ : List ℕ) → l .len ≡ 0 → w₁ ≡ put w i (l .kind) → w₂ ≡ placed w₁ i at → w₂ ≡ rowWritten text i at l w

@@ -1,13 +1,7 @@
 -- The proofs about the reader. Theorems has what follows from its contract. Agenda has the theorem about the agenda: turns lead to where the definition of reading leads. Machine has
 -- the theorem about the machine, whose agenda is in the work buffer: it ends where the definition ends.
 pub mod Theorems
-pub mod Agenda
 pub mod Machine
-pub mod Lengths
-pub mod Via
-pub mod Sorts
-pub mod Lined
-pub mod Dues
 pub mod CutText
 pub mod ParsedFacts
 pub mod Same
@@ -15,7 +9,6 @@ pub mod Starts
 pub mod Buffer
 pub mod Written
 pub mod Follows
-pub mod FirstTest
 pub mod InNumbers
 pub mod Bounds
 pub mod FirstLine

@@ -11,11 +11,12 @@ use Rattle.spec_text.specs.Reading.{Rest, Read, got, refused, deepest}
 use Rattle.spec_text.proofs.Lists.{all-nil}
 use Rattle.read_names.specs.ChainsModel.{cleared}
 use Rattle.read_names.proofs.Theorems.{cleared-names}
-use Rattle.read_tree.specs.Rows.{rowsT}
+use Rattle.work_rows.specs.Rows.{rowsT}
 use Rattle.read_tree.specs.Laid.{skip, Holds}
-use Rattle.read_tree.specs.AgendaModel.{State, Phase, on, stopped, turn, Via, here, step, stop, first, Leads, after}
-use Rattle.read_tree.specs.MachineModel.{Machine, stack, Turns, done, more, turnOf, firstMachine, restAt}
-use Rattle.read_tree.proofs.Agenda.{agenda-reads}
+use Rattle.read_agenda.specs.AgendaModel.{State, Phase, on, stopped, turn, Via, here, step, stop, first, Leads, after}
+use Rattle.read_tree.specs.MachineModel.{Machine, Turns, done, more, turnOf, firstMachine, restAt}
+use Rattle.read_agenda.specs.StackModel.{stack}
+use Rattle.read_agenda.proofs.Agenda.{agenda-reads}
 use Rattle.read_tree.proofs.Buffer.{Held, bare, due-low, pushed-held}
 use Rattle.read_tree.proofs.Follows.{Sim, Follows, idle, goes, skips, ends, turn-follows}
 

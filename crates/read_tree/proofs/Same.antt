@@ -18,7 +18,7 @@ use Rattle.read_fields.specs.FieldsModel.{fieldAt}
 use Rattle.read_line.specs.LineModel.{lineAt, cutLine, numbersOf, noLine}
 use Rattle.read_names.specs.ChainsModel.{partOf}
 use Rattle.read_tree.specs.Laid.{skip}
-use Rattle.read_tree.specs.AgendaModel.{lineDue, ofSort}
+use Rattle.read_agenda.specs.AgendaModel.{lineDue, ofSort}
 use Rattle.read_words.specs.ChildrenModel.{childrenOf, childrenIn, childrenBy}
 use Rattle.read_tree.specs.MachineModel.{refusalOf, dueAt, restAt}
 use Rattle.read_tree.proofs.CutText.{FieldIn, field-inside, cut-fields, cut-skips, skip-onward}

@@ -11,7 +11,7 @@ use Rattle.work_rows.specs.Layout.{offsetAt, numberAt}
 use Rattle.read_names.specs.Names.{earliest}
 use Rattle.read_names.specs.ChainsModel.{lookup}
 use Rattle.read_names.proofs.Theorems.{same-number, lookup-earliest}
-use Rattle.read_tree.specs.Rows.{Row}
+use Rattle.work_rows.specs.Rows.{Row}
 use Rattle.read_tree.specs.Laid.{Holds, Answers, nameIn}
 use Rattle.read_tree.specs.declared.Read.{Read}
 

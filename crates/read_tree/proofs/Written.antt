@@ -19,10 +19,11 @@ use Rattle.work_rows.specs.Layout.{put, rowsMost, nameBase, dueBase, offsetAt, 
 use Rattle.read_fields.specs.FieldsModel.{fieldAt, hashOf}
 use Rattle.read_names.specs.ChainsModel.{Names, partOf, placed, added}
 use Rattle.read_names.proofs.Theorems.{Outside, other-names, placed-names, placed-length, placed-offset, placed-rows, placed-outside, added-names, added-length, added-offset, added-rows, added-outside}
-use Rattle.read_tree.specs.Rows.{Row, row}
+use Rattle.work_rows.specs.Rows.{Row, row}
 use Rattle.read_tree.specs.Laid.{Holds, numberOf, nameIn, startOf, offsetOf}
-use Rattle.read_tree.specs.AgendaModel.{Entry, closeAt}
-use Rattle.read_tree.specs.MachineModel.{stack, rowWritten, rowClosed}
+use Rattle.read_agenda.specs.AgendaModel.{Entry, closeAt}
+use Rattle.read_tree.specs.MachineModel.{rowWritten, rowClosed}
+use Rattle.read_agenda.specs.StackModel.{stack}
 use Rattle.read_tree.proofs.Same.{Known}
 use Rattle.read_tree.proofs.Buffer.{Kind, Held, stacked-kept, rows-few, put-stores}
 

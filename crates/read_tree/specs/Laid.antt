@@ -11,7 +11,7 @@ use Rattle.spec_text.specs.Tree.{Tree}
 use Rattle.spec_text.specs.Reading.{Reading, tree, refusal}
 use Rattle.work_rows.specs.Layout.{rowOf, offsetAt}
 use Rattle.read_names.specs.ChainsModel.{Names}
-use Rattle.read_tree.specs.Rows.{Row, row, rowsT}
+use Rattle.work_rows.specs.Rows.{Row, row, rowsT}
 use Rattle.read_tree.specs.declared.Read.{Read}
 use Rattle.read_tree.specs.declared.Read.the-variants as R
 

@@ -1,5 +1,3 @@
 -- The rows of a tree, where they stand in the work buffer, and how the reader comes to them.
-pub mod Rows
 pub mod Laid
-pub mod AgendaModel
 pub mod MachineModel

@@ -12,11 +12,11 @@ use Rattle.read_line.specs.declared.Line.{Line}
 use Rattle.work_rows.specs.Layout.{put, dueBase, kindAt}
 use Rattle.read_names.specs.ChainsModel.{placed, added, cleared}
 use Rattle.read_words.specs.ChildrenModel.{childrenBy}
-use Rattle.read_words.specs.declared.Children.{Children}
 use Rattle.read_tree.specs.declared.Due.{Due}
 use Rattle.read_tree.specs.declared.Progress.{Progress}
 use Rattle.read_tree.specs.declared.Read.{Read}
 use Rattle.read_tree.specs.declared.Read.the-variants as R
+use Rattle.read_agenda.specs.StackModel.{Stack, stack, pushed, pushedDue, lessened}
 
 -- ---- a line that is due, or its refusal: 3, 5, 6 or 7, in this order; line n, with d levels left
 unfoldable pub refusalOf : Bool → Line → ℕ → ℕ → ℕ → ℕ
@@ -25,41 +25,6 @@ refusalOf ended l sort n d =
 
 unfoldable pub dueAt : Bytes → ℕ → ℕ → ℕ → ℕ → Due
 dueAt text at sort n d = record { refusal = refusalOf (leb (length text) at) (lineAt text at) sort n d; line = lineAt text at }
-
--- ---- the stack: an entry is sort + 8 * levels + 1024 * count, or 7 + 1024 * row to close a row
-pub record Stack : Type 0 where
-  pub work : List ℕ
-  pub top : ℕ
-
-abbrev pub stack : List ℕ → ℕ → Stack
-stack w top = record { work = w; top = top }
-
-abbrev pub runWord : ℕ → ℕ → ℕ → ℕ
-runWord s n d = s + 8 * d + 1_024 * n
-
-abbrev pub closeWord : ℕ → ℕ
-closeWord i = 7 + 1_024 * i
-
-unfoldable pub pushed : ℕ → ℕ → ℕ → Stack → Stack
-pushed s n d x = cond (eqb n 0) x (stack (put (x .work) (dueBase + x .top) (runWord s n d)) (x .top + 1))
-
-unfoldable pub pushedClose : ℕ → Stack → Stack
-pushedClose i x = stack (put (x .work) (dueBase + x .top) (closeWord i)) (x .top + 1)
-
-unfoldable pub pushedBelow : ℕ → Children → ℕ → Stack → Stack
-pushedBelow i c d x =
-    pushed 6 (c .exprs) d (pushed 5 (c .stmts) d (pushed 2 (c .elifs) d (pushed 5 (c .others) d (pushed 3 (c .methods) d (pushed 4 (c .attrs) d (pushedClose i x))))))
-
--- nothing is due below a line: it needs no closing
-unfoldable pub isLeaf : Children → Bool
-isLeaf c = eqb (c .exprs + (c .stmts + (c .elifs + (c .others + (c .methods + c .attrs))))) 0
-
-unfoldable pub pushedDue : ℕ → Children → ℕ → Stack → Stack
-pushedDue i c d x = cond (isLeaf c) x (pushedBelow i c d x)
-
--- one of the lines of the entry e, which is on top, is taken
-unfoldable pub lessened : ℕ → Stack → Stack
-lessened e x = cond (leb (e / 1_024) 1) (stack (x .work) (x .top - 1)) (stack (put (x .work) (dueBase + x .top - 1) (e - 1_024)) (x .top))
 
 -- ---- rows
 unfoldable pub rowWritten : Bytes → ℕ → ℕ → Line → List ℕ → List ℕ

@@ -1,7 +1,10 @@
 // Reads a tree text into rows, or refuses it. An agenda in the work buffer says which lines are due, so nothing recurses: each turn
 // takes one line, writes its row, and puts the lines due below it on the agenda.
+use read_agenda::CLOSE;
+use read_agenda::DEPTHS;
+use read_agenda::LEVELS;
+use read_agenda::SORTS;
 use read_line::Line;
-use read_words::Children;
 use spec_text::refusal;
 use spec_text::sort;
 use work_rows::DUE_BASE;
@@ -10,10 +13,9 @@ ghost use mathlib.Core.Path.{_≡_};
 ghost use Prim.Native.Nat.{_+_, _-_, _<_, _≤_};
 ghost use lib.ListN.{length};
 ghost use Rattle.spec_text.specs.Reading.{reading, ended};
-ghost use Rattle.read_tree.specs.AgendaModel.{after};
+ghost use Rattle.read_agenda.specs.AgendaModel.{after};
 ghost use Rattle.read_tree.specs.Laid.{Answers, skip};
-ghost use Rattle.read_tree.specs.MachineModel.{refusalOf, dueAt, stack, pushed, pushedClose, pushedBelow, isLeaf, pushedDue, lessened, rowWritten, rowClosed, Machine, machine, taken, turnOf, Turns, answerAt, restAt, Bounded, left};
-ghost use Rattle.read_words.specs.ChildrenModel.{Few};
+ghost use Rattle.read_tree.specs.MachineModel.{refusalOf, dueAt, rowWritten, rowClosed, Machine, machine, taken, turnOf, Turns, answerAt, restAt, Bounded, left};
 
 // The most bytes of a text, the most lines after the first, the deepest line, the shortest work buffer, the most parameters.
 const LONGEST_TEXT: usize = 65536;
@@ -25,15 +27,6 @@ const DEEPEST: usize = 64;
 const SHORTEST_WORK: usize = 16384;
 
 const MOST_PARAMS: usize = 16;
-
-// An entry of the agenda is a sort of lines, SORTS times the levels left, and LEVELS times how many are due; or CLOSE and LEVELS times a row.
-const SORTS: usize = 8;
-
-const DEPTHS: usize = 128;
-
-const LEVELS: usize = 1024;
-
-const CLOSE: usize = 7;
 
 // What a text is: a tree, with so many `global` lines and so many lines after the first; or refused, by number and line.
 pub enum Read {
@@ -98,60 +91,6 @@ fn line_due(text: &[u8], at: usize, sort: usize, n: usize, d: usize) -> Due
     }
 }
 
-// Puts n lines of a sort, with d levels left, on the agenda.
-fn push(work: &mut [u32], top: usize, sort: usize, n: usize, d: usize) -> usize
-    requires { ⌜ (top < 1048576) × (sort < 8) × (d < 128) × (n ≤ 16384) ⌝ }
-    ensures { λ r. ⌜ (stack (now (work .exit)) r ≡ pushed sort n d (stack (now (work .entry)) top)) × (r ≤ top + 1) ⌝ }
-{
-    if n == 0 {
-        return top;
-    }
-    work_rows::put(work, DUE_BASE + top, sort + SORTS * d + LEVELS * n);
-    top + 1
-}
-
-// Puts the end of what is below row i on the agenda.
-fn push_close(work: &mut [u32], top: usize, i: usize) -> usize
-    requires { ⌜ (top < 1048576) × (i ≤ 4096) ⌝ }
-    ensures { λ r. ⌜ (stack (now (work .exit)) r ≡ pushedClose i (stack (now (work .entry)) top)) × (r ≤ top + 1) ⌝ }
-{
-    work_rows::put(work, DUE_BASE + top, CLOSE + LEVELS * i);
-    top + 1
-}
-
-// Puts what is due below row i on the agenda, the last first.
-fn push_below(work: &mut [u32], top: usize, i: usize, c: Children, d: usize) -> usize
-    requires { ⌜ (top < 1000000) × (i ≤ 4096) × (d < 128) × Few c ⌝ }
-    ensures { λ r. ⌜ (stack (now (work .exit)) r ≡ pushedBelow i c d (stack (now (work .entry)) top)) × (r ≤ top + 7) ⌝ }
-{
-    let t = push_close(work, top, i);
-    let t = push(work, t, sort::ATTR, c.attrs, d);
-    let t = push(work, t, sort::METHOD, c.methods, d);
-    let t = push(work, t, sort::STMT, c.others, d);
-    let t = push(work, t, sort::ELIF, c.elifs, d);
-    let t = push(work, t, sort::STMT, c.stmts, d);
-    push(work, t, sort::EXPR, c.exprs, d)
-}
-
-// Whether nothing is due below a line.
-fn is_leaf(c: Children) -> bool
-    requires { ⌜ Few c ⌝ }
-    ensures { λ r. ⌜ r ≡ isLeaf c ⌝ }
-{
-    c.exprs + (c.stmts + (c.elifs + (c.others + (c.methods + c.attrs)))) == 0
-}
-
-// Puts what is due below row i on the agenda, if anything is.
-fn push_due(work: &mut [u32], top: usize, i: usize, c: Children, d: usize) -> usize
-    requires { ⌜ (top < 1000000) × (i ≤ 4096) × (d < 128) × Few c ⌝ }
-    ensures { λ r. ⌜ (stack (now (work .exit)) r ≡ pushedDue i c d (stack (now (work .entry)) top)) × (r ≤ top + 7) ⌝ }
-{
-    if is_leaf(c) {
-        return top;
-    }
-    push_below(work, top, i, c, d)
-}
-
 // Writes row i: its kind, and its name or where its line starts.
 fn write_row(text: &[u8], work: &mut [u32], i: usize, at: usize, l: Line)
     requires { ⌜ (i ≤ 4096) × ((l .len ≡ 0 → ⊥) → l .name < 4294967296) ⌝ }
@@ -174,18 +113,6 @@ fn close(work: &mut [u32], i: usize, rows: usize)
     work_rows::put(work, i, kind + KINDS * minus(rows, i + 1))
 }
 
-// One of the lines of the entry e, which is on top, is taken.
-fn less(work: &mut [u32], top: usize, e: usize) -> usize
-    requires { ⌜ (0 < top) × (top < 1048576) ⌝ }
-    ensures { λ r. ⌜ (stack (now (work .exit)) r ≡ lessened e (stack (now (work .entry)) top)) × (r ≤ top) ⌝ }
-{
-    if e / LEVELS <= 1 {
-        return top - 1;
-    }
-    work_rows::put(work, DUE_BASE + top - 1, e - LEVELS);
-    top
-}
-
 // Takes the next line, which is due by the entry e.
 fn take(text: &[u8], work: &mut [u32], s: Progress, e: usize) -> Progress
     requires { ⌜ Bounded (now text) s ⌝ }
@@ -205,14 +132,14 @@ fn take(text: &[u8], work: &mut [u32], s: Progress, e: usize) -> Progress
     }
     let l = x.line;
     write_row(text, work, s.rows, s.at, l);
-    let t = less(work, s.top, e);
+    let t = read_agenda::less(work, s.top, e);
     let c = read_words::children_of(
         l.kind,
         work_rows::wide(l.count0),
         work_rows::wide(l.count1),
         work_rows::wide(l.count2),
     );
-    let top = push_due(work, t, s.rows, c, minus(d, 1));
+    let top = read_agenda::push_due(work, t, s.rows, c, minus(d, 1));
     Progress {
         at: l.next,
         rows: s.rows + 1,
@@ -285,8 +212,8 @@ fn rest(text: &[u8], work: &mut [u32], globals: usize, stmts: usize, at: usize) 
     ensures { λ r. ⌜ Answers (now (text .entry)) (ended (after globals stmts (restAt (now (text .entry)) at 2))) (now (work .exit)) r ⌝ }
 {
     read_names::clear(work);
-    let t = push(work, 0, sort::STMT, stmts, DEEPEST);
-    let top = push(work, t, sort::GLOBAL, globals, DEEPEST);
+    let t = read_agenda::push(work, 0, sort::STMT, stmts, DEEPEST);
+    let top = read_agenda::push(work, t, sort::GLOBAL, globals, DEEPEST);
     let s = turns(
         text,
         work,

@@ -1,7 +1,7 @@
 -- The code's tests are the definition's.
 use mathlib.Core.Path.{refl}
 use borrow.Author.Tests.{eq-eqb, ne-eqb, lt-ltb, le-ltb}
-use Rattle.read_tree.proofs.FirstTest.{holds, fails}
+use Rattle.read_agenda.proofs.FirstTest.{holds, fails}
 use borrow.Author.Needs.{needs}
 use Rattle.read_tree.proofs.answer.Statement.{statement}
 use Rattle.read_tree.proofs.answer.Tie as tie

@@ -6,7 +6,7 @@ use lib.Dec.{eqb}
 use borrow.Author.Needs.{needs}
 use borrow.Author.Tests.{eq-eqb, ne-eqb, lt-ltb, le-ltb}
 use Rattle.read_tree.specs.MachineModel.{refusalOf}
-use Rattle.read_tree.proofs.FirstTest.{holds, fails}
+use Rattle.read_agenda.proofs.FirstTest.{holds, fails}
 use Rattle.read_tree.proofs.refusal.Statement.{statement}
 use Rattle.read_tree.proofs.refusal.Tie as tie
 

@@ -6,9 +6,9 @@ use mathlib.Core.List.{List, [], _∷_, _++_, append-assoc}
 use lib.ListN.{length}
 use Rattle.spec_text.specs.Tree.{Line}
 use Rattle.spec_text.specs.Reading.{Rest, Read, got, refused, andThen}
-use Rattle.read_tree.specs.Rows.{Row, row}
-use Rattle.read_tree.specs.AgendaModel.{Entry, close, State, Phase, on, stopped, closeAt, Via, here, step}
-use Rattle.read_tree.proofs.Lengths.{Sized}
+use Rattle.work_rows.specs.Rows.{Row, row}
+use Rattle.read_agenda.specs.AgendaModel.{Entry, close, State, Phase, on, stopped, closeAt, Via, here, step}
+use Rattle.work_rows.proofs.Lengths.{Sized}
 
 abbrev pub at : List Entry → Rest → List Row → State
 at agenda r rows = record { agenda = agenda; rest = r; rows = rows }

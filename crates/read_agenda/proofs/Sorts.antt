@@ -7,7 +7,7 @@ use mathlib.Core.Option.{Option, none, some}
 use lib.Dec.{eqb}
 use borrow.Author.Tests.{eqb-true}
 use Rattle.spec_text.specs.Lines.{Form, sortOf, asStmt, asExpr, asSort}
-use Rattle.read_tree.specs.AgendaModel.{ofSort}
+use Rattle.read_agenda.specs.AgendaModel.{ofSort}
 
 -- `back a`: the form of which a reader makes a
 pub data Fits {A : Type 0} (back : A → Form) : Form → Option A → Option Form → Type 0 where

@@ -1,9 +1,9 @@
 -- Seven pushes, each on what the one before leaves.
 use native.Mathlib.Omega.{arith}
-use Rattle.read_tree.proofs.InNumbers.{below-by}
+use Rattle.read_agenda.proofs.Pushes.{below-by}
 use borrow.Author.Needs.{needs}
-use Rattle.read_tree.proofs.push_below.Statement.{statement}
-use Rattle.read_tree.proofs.push_below.Tie as tie
+use Rattle.read_agenda.proofs.push_below.Statement.{statement}
+use Rattle.read_agenda.proofs.push_below.Tie as tie
 
 push-close-requires : tie.Need-push-close-requires
 push-close-requires c κs = search needs

@@ -2,10 +2,10 @@
 use native.Mathlib.Omega.{arith}
 use mathlib.Core.Path.{refl, sym, _∙_}
 use borrow.Author.Needs.{needs}
-use Rattle.read_tree.specs.MachineModel.{pushedDue}
-use Rattle.read_tree.proofs.FirstTest.{holds, fails}
-use Rattle.read_tree.proofs.push_due.Statement.{statement}
-use Rattle.read_tree.proofs.push_due.Tie as tie
+use Rattle.read_agenda.specs.StackModel.{pushedDue}
+use Rattle.read_agenda.proofs.FirstTest.{holds, fails}
+use Rattle.read_agenda.proofs.push_due.Statement.{statement}
+use Rattle.read_agenda.proofs.push_due.Tie as tie
 
 is-leaf-requires : tie.Need-is-leaf-requires
 is-leaf-requires c κs = search needs

@@ -14,11 +14,11 @@ use Rattle.spec_text.specs.Tree.{Line}
 use Rattle.spec_text.specs.Lines.{Form, Word, words, Cut, cut, Parsed, wellFormed, parsed, lineOf, parse, sortOf}
 use Rattle.spec_text.specs.Reading.{Rest, Read, got, refused, andThen, Due, withinLimits, limited, dueHere, line, tooDeep}
 use Rattle.spec_text.proofs.Lists.{and-split}
-use Rattle.read_tree.specs.Rows.{Row, row}
-use Rattle.read_tree.specs.AgendaModel.{Entry, run, close, due, dueBelow, State, Phase, ofSort, lineOpened, here, step, stop}
+use Rattle.work_rows.specs.Rows.{Row, row}
+use Rattle.read_agenda.specs.AgendaModel.{Entry, run, close, due, dueBelow, State, Phase, ofSort, lineOpened, here, step, stop}
 use Rattle.read_words.specs.ChildrenModel.{childrenIn}
-use Rattle.read_tree.proofs.Sorts.{Fits, fits-some, fits-none, Sorts}
-use Rattle.read_tree.proofs.Via.{at, Goes, goes-from, goes-out, Refuses, refuses}
+use Rattle.read_agenda.proofs.Sorts.{Fits, fits-some, fits-none, Sorts}
+use Rattle.read_agenda.proofs.Via.{at, Goes, goes-from, goes-out, Refuses, refuses}
 
 -- ---- what the table says of a `global` line
 abbrev globalLine : Part → Line

@@ -4,11 +4,11 @@ use Prim.Native.Nat.{ℕ}
 use mathlib.Core.Path.{refl, ap}
 use mathlib.Core.List.{List}
 use borrow.Author.Tests.{le-leb, lt-leb}
-use Rattle.read_tree.specs.MachineModel.{stack, lessened}
-use Rattle.read_tree.proofs.FirstTest.{holds, fails}
+use Rattle.read_agenda.specs.StackModel.{stack, lessened}
+use Rattle.read_agenda.proofs.FirstTest.{holds, fails}
 use borrow.Author.Needs.{needs}
-use Rattle.read_tree.proofs.less.Statement.{statement}
-use Rattle.read_tree.proofs.less.Tie as tie
+use Rattle.read_agenda.proofs.less.Statement.{statement}
+use Rattle.read_agenda.proofs.less.Tie as tie
 
 sub-result : tie.Need-sub-result
 sub-result c = search needs

@@ -5,7 +5,7 @@ use mathlib.Core.Path.{_≡_, refl}
 use mathlib.Core.List.{List, [], _∷_, _++_, map}
 use lib.ListN.{length, length-append, length-map}
 use Rattle.spec_text.specs.Tree.{Expr, Exprs, Attrs, Stmt, Stmts, Methods, Tree, lenE, lenEs, lenAs, lenS, lenSs, lenMs, var, node, access, tuple, call, lambda, enil, econs, anil, acons, simple, assign, block, choice, for, def, class, snil, scons, mnil, mcons}
-use Rattle.read_tree.specs.Rows.{Row, globalRow, rowsE, rowsEs, rowsAs, rowsS, rowsSs, rowsMs, rowsT}
+use Rattle.work_rows.specs.Rows.{Row, globalRow, rowsE, rowsEs, rowsAs, rowsS, rowsSs, rowsMs, rowsT}
 
 pub record Sized (a : List Row) (n : ℕ) : Type 0 where
   pub count : length a ≡ n

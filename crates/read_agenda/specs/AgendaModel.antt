@@ -1,6 +1,6 @@
 -- Reading with no recursion: an agenda says what is due, the next thing first. A turn takes the next line, writes its row, and puts the
 -- lines that are due below it on the agenda; when they are read, the row gets their number.
-use Prim.Native.Nat.{ℕ, zero, suc, pred, _*_}
+use Prim.Native.Nat.{ℕ, zero, suc, pred}
 use mathlib.Core.Bool.{cond}
 use mathlib.Core.List.{List, [], _∷_, _++_}
 use mathlib.Core.Option.{Option, none, some}
@@ -10,7 +10,7 @@ use lib.ListN.{length}
 use Rattle.spec_text.specs.Tree.{Tree}
 use Rattle.spec_text.specs.Lines.{Form, sortOf}
 use Rattle.spec_text.specs.Reading.{Rest, Read, got, Due, line, tooDeep, andThen, globals, stmts, stmt, deepest}
-use Rattle.read_tree.specs.Rows.{Row, row, rowsT}
+use Rattle.work_rows.specs.Rows.{Row, row, rowsT}
 use Rattle.read_words.specs.declared.Children.{Children}
 use Rattle.read_words.specs.ChildrenModel.{childrenIn}
 

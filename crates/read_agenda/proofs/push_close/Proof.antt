@@ -3,10 +3,10 @@ use native.Mathlib.Omega.{arith}
 use Prim.Native.Nat.{ℕ, _+_}
 use mathlib.Core.Path.{ap}
 use mathlib.Core.List.{List}
-use Rattle.read_tree.specs.MachineModel.{stack, pushedClose}
+use Rattle.read_agenda.specs.StackModel.{stack, pushedClose}
 use borrow.Author.Needs.{needs}
-use Rattle.read_tree.proofs.push_close.Statement.{statement}
-use Rattle.read_tree.proofs.push_close.Tie as tie
+use Rattle.read_agenda.proofs.push_close.Statement.{statement}
+use Rattle.read_agenda.proofs.push_close.Tie as tie
 
 add-put : tie.Need-add-put
 add-put c = search needs

@@ -1,8 +1,8 @@
 -- The sum is 0 exactly where the test says so.
 use borrow.Author.Needs.{needs}
-use Rattle.read_tree.specs.MachineModel.{isLeaf}
-use Rattle.read_tree.proofs.is_leaf.Statement.{statement}
-use Rattle.read_tree.proofs.is_leaf.Tie as tie
+use Rattle.read_agenda.specs.StackModel.{isLeaf}
+use Rattle.read_agenda.proofs.is_leaf.Statement.{statement}
+use Rattle.read_agenda.proofs.is_leaf.Tie as tie
 
 add-result : tie.Need-add-result
 add-result c = search needs

@@ -7,12 +7,12 @@ use lib.ListN.{length, getD}
 use Rattle.spec_text.specs.Tree.{Line, Expr, Stmt, Stmts, lenE, lenSs}
 use Rattle.spec_text.specs.Lines.{StmtForm, ExprForm, Form, asSort}
 use Rattle.spec_text.specs.Reading.{Rest, Read, line, exprs, attrs, stmts, methods, expr, elifLine, stmt, elif, methodsAt, attrsAt, globals}
-use Rattle.read_tree.specs.Rows.{Row, row, rowsE, rowsEs, rowsAs, rowsS, rowsSs, rowsMs, globalRow}
-use Rattle.read_tree.specs.AgendaModel.{Entry, run, close, due}
-use Rattle.read_tree.proofs.Lengths.{nothing, both, sized-e, sized-es, sized-as, sized-ss, sized-ms}
-use Rattle.read_tree.proofs.Via.{at, via-same, via-close, Goes, goes-on, goes-from, goes-then, goes-refused, refuses-then}
-use Rattle.read_tree.proofs.Sorts.{expr-sorts, stmt-sorts, elif-sorts, method-sorts, attr-sorts, global-sorts}
-use Rattle.read_tree.proofs.Lined.{parsedAs, line-then, too-deep}
+use Rattle.work_rows.specs.Rows.{Row, row, rowsE, rowsEs, rowsAs, rowsS, rowsSs, rowsMs, globalRow}
+use Rattle.read_agenda.specs.AgendaModel.{Entry, run, close, due}
+use Rattle.work_rows.proofs.Lengths.{nothing, both, sized-e, sized-es, sized-as, sized-ss, sized-ms}
+use Rattle.read_agenda.proofs.Via.{at, via-same, via-close, Goes, goes-on, goes-from, goes-then, goes-refused, refuses-then}
+use Rattle.read_agenda.proofs.Sorts.{expr-sorts, stmt-sorts, elif-sorts, method-sorts, attr-sorts, global-sorts}
+use Rattle.read_agenda.proofs.Lined.{parsedAs, line-then, too-deep}
 
 -- ---- children
 -- the next of the lines of sort s that are due, with d levels left; and all of them

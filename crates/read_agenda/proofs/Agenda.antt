@@ -3,10 +3,10 @@ use Prim.Native.Nat.{ℕ, pred}
 use mathlib.Core.List.{[], map}
 use Rattle.spec_text.specs.Tree.{Tree}
 use Rattle.spec_text.specs.Reading.{Rest, Read, deepest}
-use Rattle.read_tree.specs.Rows.{rowsT, globalRow}
-use Rattle.read_tree.specs.AgendaModel.{State, here, due, first, Leads, after}
-use Rattle.read_tree.proofs.Via.{at, Goes, goes-on, goes-out, goes-then}
-use Rattle.read_tree.proofs.Dues.{stmts-go, stmt-go, globals-go}
+use Rattle.work_rows.specs.Rows.{rowsT, globalRow}
+use Rattle.read_agenda.specs.AgendaModel.{State, here, due, first, Leads, after}
+use Rattle.read_agenda.proofs.Via.{at, Goes, goes-on, goes-out, goes-then}
+use Rattle.read_agenda.proofs.Dues.{stmts-go, stmt-go, globals-go}
 
 leads : {s : State} {x : Read Tree} → Goes s (λ t r. at [] r (rowsT t)) x → Leads s x
 leads (goes-on v) = v
