@@ -4,11 +4,10 @@ use mathlib.Core.Path.{_≡_}
 use mathlib.Core.List.{List}
 use mathlib.Core.Option.{some}
 use lib.ListN.{length}
-use Rattle.spec_text.specs.Bytes.{Bytes, Part}
+use Rattle.spec_text.specs.Bytes.{Bytes, Part, partOf}
 use Rattle.spec_text.specs.Reading.{Reading, tree, refusal}
 use Rattle.spec_faults.specs.Faults.{Fault, faults, record7}
 use Rattle.spec_answers.specs.Answers.{nthFault}
-use Rattle.read_names.specs.ChainsModel.{partOf}
 use Rattle.report_order.specs.OrderModel.{entryAt}
 use Rattle.report_records.specs.RecordsModel.{recordOf, numbers}
 use Rattle.find_faults.specs.declared.Answer.{Answer}

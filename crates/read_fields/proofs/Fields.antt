@@ -13,7 +13,8 @@ use lib.Seq.{drop-cons}
 use borrow.Author.Tests.{eq-eqb, ne-eqb, eqb-true}
 use Rattle.spec_text.specs.Bytes.{Bytes, same, all, isDigit, isNameByte}
 use Rattle.spec_text.proofs.Lists.{and-split}
-use Rattle.read_fields.specs.FieldsModel.{isEnd, field, fieldAt, endOf, endByte, endsAt, past, pastEnd, refused, hashFrom, mix}
+use Rattle.read_fields.specs.FieldsModel.{field, fieldAt, endOf, endByte, endsAt, past, pastEnd, refused, hashFrom, mix}
+use Rattle.read_bytes.specs.BytesModel.{isEnd}
 use Rattle.read_fields.specs.declared.Cursor.{Cursor}
 
 -- ---- tests

@@ -10,7 +10,8 @@ use lib.ListN.{length, getD}
 use borrow.Author.Tests.{leb-true, le-leb, ltb-true, lt-ltb, not-true}
 use Rattle.spec_text.specs.Bytes.{Bytes, same, all, isDigit, isNameByte, isName, isNumber, decimal, valueOf, leadingZero, longestName}
 use Rattle.spec_text.proofs.Lists.{and-split}
-use Rattle.read_fields.specs.FieldsModel.{isEnd, fieldAt, endOf, endByte, past, pastEnd, refused, takes, noNumber, noName, fieldFrom, numberFrom, nameFrom, hashOf}
+use Rattle.read_fields.specs.FieldsModel.{fieldAt, endOf, endByte, past, pastEnd, refused, takes, noNumber, noName, fieldFrom, numberFrom, nameFrom, hashOf}
+use Rattle.read_bytes.specs.BytesModel.{isEnd}
 use Rattle.read_fields.specs.declared.Cursor.{Cursor}
 use Rattle.read_fields.specs.declared.Number.{Number}
 use Rattle.read_fields.specs.declared.Name.{Name}

@@ -1,6 +1,6 @@
 -- A line's fields as a cursor meets them, one after the other: what each step takes, and where the next one stands.
 use Prim.Native.Nat.{ℕ, _+_, _*_, _%_}
-use mathlib.Core.Bool.{Bool, true, false, cond, not, _&&_, _||_}
+use mathlib.Core.Bool.{Bool, true, false, cond, not, _&&_}
 use mathlib.Core.List.{[], _∷_}
 use lib.Dec.{eqb}
 use lib.ListN.{length, getD, drop}
@@ -8,10 +8,7 @@ use Rattle.spec_text.specs.Bytes.{Bytes, same, isName, isNumber, valueOf}
 use Rattle.read_fields.specs.declared.Cursor.{Cursor}
 use Rattle.read_fields.specs.declared.Number.{Number}
 use Rattle.read_fields.specs.declared.Name.{Name}
-
--- a tab or a line feed
-abbrev pub isEnd : ℕ → Bool
-isEnd b = eqb b 9 || eqb b 10
+use Rattle.read_bytes.specs.BytesModel.{isEnd}
 
 -- a field: the bytes up to the next tab or LF
 unfoldable pub field : Bytes → Bytes
@@ -47,6 +44,10 @@ endsAt text i = elim (drop i text) [ [] ↦ true | b ∷ bs ↦ isEnd b ]
 -- the cursor past the byte at an offset, which has to be a tab or LF
 abbrev pub pastEnd : Bytes → ℕ → Cursor
 pastEnd text i = cond (isEnd (getD text i 0)) (record { at = i + 1; more = eqb (getD text i 0) 9; ok = true }) refused
+
+-- the cursor after the byte at an offset, which ends a field
+abbrev pub nextAt : Bytes → ℕ → Cursor
+nextAt text end = record { at = end + 1; more = eqb (getD text end 0) 9; ok = true }
 
 -- a step takes a field where there is one, its bytes are right, and a tab or LF ends it
 abbrev pub takes : (Bytes → Bool) → Bytes → Cursor → Bool

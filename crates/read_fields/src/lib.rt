@@ -1,10 +1,10 @@
 // A cursor over the fields of a line: it goes by value, and each step hands back the next one. A step that finds something else hands
 // back a cursor that is not ok, which takes nothing any more, so that a line's reader needs no branch.
 ghost use mathlib.Core.Path.{_≡_};
-ghost use Prim.Native.Nat.{_+_, _<_};
-ghost use lib.ListN.{getD};
-ghost use Rattle.spec_text.specs.Bytes.{same, isDigit, isNameByte};
-ghost use Rattle.read_fields.specs.FieldsModel.{isEnd, fieldAt, refused, startAt, fieldFrom, numberFrom, hashOf, nameFrom, mix, endFrom, endsAt, pastEnd, noNumber, noName};
+ghost use Prim.Native.Nat.{_+_, _<_, _≤_};
+ghost use lib.ListN.{length};
+ghost use Rattle.spec_text.specs.Bytes.{same};
+ghost use Rattle.read_fields.specs.FieldsModel.{nextAt, fieldAt, refused, startAt, fieldFrom, numberFrom, hashOf, nameFrom, mix, endFrom, endsAt, pastEnd, noNumber, noName};
 
 // The most bytes of a name.
 const LONGEST_NAME: usize = 63;
@@ -30,49 +30,6 @@ pub struct Name {
     pub next: Cursor,
 }
 
-// A byte of a number.
-pub fn is_digit(b: u8) -> bool
-    ensures { λ r. ⌜ r ≡ isDigit b ⌝ }
-{
-    match b {
-        b'0'..=b'9' => true,
-        _ => false,
-    }
-}
-
-// A byte of a name.
-pub fn is_name_byte(b: u8) -> bool
-    ensures { λ r. ⌜ r ≡ isNameByte b ⌝ }
-{
-    match b {
-        b'a'..=b'z' | b'A'..=b'Z' | b'0'..=b'9' | b'_' => true,
-        _ => false,
-    }
-}
-
-// A tab or a line feed.
-pub fn is_end(b: u8) -> bool
-    ensures { λ r. ⌜ r ≡ isEnd b ⌝ }
-{
-    match b {
-        b'\t' | b'\n' => true,
-        _ => false,
-    }
-}
-
-fn wide(b: u8) -> usize
-    ensures { λ r. ⌜ (r ≡ b) × (r < 256) ⌝ }
-{
-    b as usize
-}
-
-// The byte at i, and 0 past the end.
-pub fn byte_at(text: &[u8], i: usize) -> u8
-    ensures { λ r. ⌜ r ≡ getD (now (text .entry)) i 0 ⌝ }
-{
-    if i < text.len() { text[i] } else { 0 }
-}
-
 // Whether the field at an offset has these bytes.
 pub fn is_field(text: &[u8], at: usize, word: &[u8]) -> bool
     ensures { λ r. ⌜ r ≡ same (fieldAt (now (text .entry)) at) (now (word .entry)) ⌝ }
@@ -90,7 +47,7 @@ pub fn is_field(text: &[u8], at: usize, word: &[u8]) -> bool
         if text[at + i] != b {
             return false;
         }
-        if is_end(b) {
+        if read_bytes::is_end(b) {
             return false;
         }
         i += 1;
@@ -103,7 +60,7 @@ fn ends_at(text: &[u8], i: usize) -> bool
     ensures { λ r. ⌜ r ≡ endsAt (now (text .entry)) i ⌝ }
 {
     if i < text.len() {
-        is_end(text[i])
+        read_bytes::is_end(text[i])
     } else {
         true
     }
@@ -127,7 +84,7 @@ fn mixed(h: usize, b: u8) -> usize
     requires { ⌜ h < 4096 ⌝ }
     ensures { λ r. ⌜ (r ≡ mix h b) × (r < 4096) ⌝ }
 {
-    (h * 1597 + wide(b)) % 4096
+    (h * 1597 + read_bytes::wide(b)) % 4096
 }
 
 fn refused_cursor() -> Cursor
@@ -164,15 +121,41 @@ fn refused_name() -> Name
 fn past_end(text: &[u8], i: usize) -> Cursor
     ensures { λ r. ⌜ r ≡ pastEnd (now (text .entry)) i ⌝ }
 {
-    let b = byte_at(text, i);
-    if is_end(b) {
+    let b = read_bytes::byte_at(text, i);
+    if read_bytes::is_end(b) {
         return Cursor {
             at: i + 1,
-            more: b == b'\t',
+            more: b == read_bytes::TAB,
             ok: true,
         };
     }
     refused_cursor()
+}
+
+// The field at an offset.
+pub fn field(text: &[u8], at: usize) -> &[u8]
+    ensures { λ r. ⌜ now r ≡ fieldAt (now (text .entry)) at ⌝ }
+{
+    if text.len() <= at {
+        return &text[0..0];
+    }
+    let mut end = at;
+    while end < text.len() && !read_bytes::is_end(text[end]) {
+        end += 1;
+    }
+    &text[at..end]
+}
+
+// The cursor after the byte at an offset, which ends a field.
+pub fn next(text: &[u8], end: usize) -> Cursor
+    requires { ⌜ end ≤ length (now text) ⌝ }
+    ensures { λ r. ⌜ r ≡ nextAt (now (text .entry)) end ⌝ }
+{
+    Cursor {
+        at: end + 1,
+        more: read_bytes::byte_at(text, end) == read_bytes::TAB,
+        ok: true,
+    }
 }
 
 impl Cursor {
@@ -215,7 +198,7 @@ impl Cursor {
         let most = largest as u64;
         let mut i = at;
         let mut v: u64 = 0;
-        while is_digit(byte_at(text, i)) {
+        while read_bytes::is_digit(read_bytes::byte_at(text, i)) {
             let d = text[i] - 48;
             v = v * 10 + (d as u64);
             if most < v {
@@ -253,12 +236,12 @@ impl Cursor {
             return refused_name();
         }
         let at = self.at;
-        if is_digit(byte_at(text, at)) {
+        if read_bytes::is_digit(read_bytes::byte_at(text, at)) {
             return refused_name();
         }
         let mut i = at;
         let mut h = 0;
-        while is_name_byte(byte_at(text, i)) {
+        while read_bytes::is_name_byte(read_bytes::byte_at(text, i)) {
             h = mixed(h, text[i]);
             i += 1;
         }

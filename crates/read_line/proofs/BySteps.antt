@@ -8,7 +8,8 @@ use lib.ListN.{length}
 use borrow.Author.Tests.{ltb-true}
 use Rattle.spec_text.specs.Bytes.{Bytes}
 use Rattle.spec_text.specs.Lines.{Word, words, Cut, Parsed, parsed, wellFormed}
-use Rattle.read_fields.specs.FieldsModel.{isEnd, fieldAt, endByte, startAt, past, endFrom}
+use Rattle.read_fields.specs.FieldsModel.{fieldAt, endByte, startAt, past, endFrom}
+use Rattle.read_bytes.specs.BytesModel.{isEnd}
 use Rattle.read_fields.specs.declared.Cursor.{Cursor}
 use Rattle.read_fields.specs.declared.Number.{Number}
 use Rattle.read_fields.specs.declared.Name.{Name}

@@ -12,7 +12,8 @@ use lib.Seq.{drop-drop, getD-drop}
 use borrow.Author.Tests.{eqb-true}
 use Rattle.spec_text.specs.Bytes.{Bytes, Part}
 use Rattle.spec_text.specs.Lines.{Cut, cut}
-use Rattle.read_fields.specs.FieldsModel.{isEnd, field, fieldAt, endOf, endByte, past}
+use Rattle.read_fields.specs.FieldsModel.{field, fieldAt, endOf, endByte, past}
+use Rattle.read_bytes.specs.BytesModel.{isEnd}
 use Rattle.read_fields.specs.declared.Cursor.{Cursor}
 
 -- the fields of the bytes at an offset where there is one more field; else the line has ended

@@ -9,7 +9,8 @@ use lib.Dec.{eqb, ltb, eqb·zero-suc}
 use lib.ListN.{length, getD}
 use Rattle.spec_text.specs.Bytes.{Bytes, Part, noPart, all, isName, isNumber, valueOf}
 use Rattle.spec_text.specs.Lines.{Cut}
-use Rattle.read_fields.specs.FieldsModel.{isEnd, endByte, refused, past, takes, numberFrom, hashOf, hashFrom, endFrom}
+use Rattle.read_fields.specs.FieldsModel.{endByte, refused, past, takes, numberFrom, hashOf, hashFrom, endFrom}
+use Rattle.read_bytes.specs.BytesModel.{isEnd}
 use Rattle.read_fields.specs.declared.Cursor.{Cursor}
 use Rattle.read_fields.specs.declared.Number.{Number}
 use Rattle.read_fields.specs.declared.Name.{Name}

@@ -7,7 +7,8 @@ use Prim.Native.Nat.{ℕ, zero, suc}
 use lib.ListN.{take, drop}
 use Rattle.spec_text.specs.Bytes.{Bytes, Part}
 use Rattle.spec_text.specs.Lines.{Cut}
-use Rattle.read_fields.specs.FieldsModel.{isEnd, fieldAt, endByte, refused, past, takes}
+use Rattle.read_fields.specs.FieldsModel.{fieldAt, endByte, refused, past, takes}
+use Rattle.read_bytes.specs.BytesModel.{isEnd}
 use Rattle.read_fields.specs.declared.Cursor.{Cursor}
 use Rattle.read_line.proofs.Cut.{toCome, fieldOf, before, stop, unroll, where-ok}
 

@@ -9,7 +9,8 @@ use native.Mathlib.Omega.{arith}
 use lib.ListN.{length, drop}
 use Rattle.spec_text.specs.Bytes.{Bytes, Part, all, isName}
 use Rattle.spec_text.specs.Lines.{Cut, cut}
-use Rattle.read_fields.specs.FieldsModel.{isEnd, fieldAt, endByte, refused, endOf, past, takes, noName, nameFrom, hashOf}
+use Rattle.read_fields.specs.FieldsModel.{fieldAt, endByte, refused, endOf, past, takes, noName, nameFrom, hashOf}
+use Rattle.read_bytes.specs.BytesModel.{isEnd}
 use Rattle.read_fields.specs.declared.Cursor.{Cursor}
 use Rattle.read_fields.specs.declared.Name.{Name}
 use Rattle.read_fields.proofs.Fields.{inside}

@@ -12,11 +12,11 @@ use borrow.Author.Tests.{lt-ltb, le-ltb, le-leb}
 use lib.Dec.{leb, ltb}
 use lib.ListN.{length, getD, length-set}
 use lib.Seq.{getD-set-same, getD-set-other}
-use Rattle.spec_text.specs.Bytes.{Bytes}
+use Rattle.spec_text.specs.Bytes.{Bytes, partOf}
 use Rattle.read_fields.specs.FieldsModel.{fieldAt, hashOf}
 use Rattle.work_rows.specs.Layout.{put, rowsMost, nameBase, headBase, dueBase, nameOf, offsetAt, sameAt}
 use Rattle.read_names.specs.Names.{earliest}
-use Rattle.read_names.specs.ChainsModel.{partOf, headAt, found, placed, nameEntered, added, cleared, New, Link, Names}
+use Rattle.read_names.specs.ChainsModel.{headAt, found, placed, nameEntered, added, cleared, New, Link, Names}
 use Rattle.read_names.proofs.Earliest.{more, First, Absent, sought, earliest-first, earliest-absent, first-more, first-new, earliest-more, more-old, more-new, more-length}
 use Rattle.read_names.proofs.Writes.{eq-or-ne, marked, headed, entered-old, entered-new, cleared-length, cleared-head}
 use Rattle.read_names.proofs.Links.{hash-small, found-earliest, first-is-new, new-less, link-more, link-past, link-on}

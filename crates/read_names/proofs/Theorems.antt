@@ -8,11 +8,11 @@ use mathlib.Core.List.{List, [], _∷_, _++_}
 use mathlib.Core.Logic.{_↔_, ⊎-elim}
 use lib.ListN.{length, getD, set, length-set}
 use lib.Seq.{getD-set-other}
-use Rattle.spec_text.specs.Bytes.{Bytes}
+use Rattle.spec_text.specs.Bytes.{Bytes, partOf}
 use Rattle.read_fields.specs.FieldsModel.{fieldAt, hashOf}
 use Rattle.work_rows.specs.Layout.{rowsMost, numberAt}
 use Rattle.read_names.specs.Names.{earliest, Numbered}
-use Rattle.read_names.specs.ChainsModel.{partOf, lookup, placed, added, cleared, Names}
+use Rattle.read_names.specs.ChainsModel.{lookup, placed, added, cleared, Names}
 use Rattle.read_names.proofs.Earliest.{number-name, name-number}
 use Rattle.read_names.proofs.Links.{found-earliest}
 use Rattle.read_names.proofs.Adds.{names-empty, names-none, names-added, names-kept}

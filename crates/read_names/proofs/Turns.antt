@@ -1,30 +1,17 @@
--- The code's steps, as the definitions have them: a part, a link, a turn of the follow and of the loop that clears.
+-- The code's steps, as the definitions have them: a link, a turn of the follow and of the loop that clears.
 use Prim.Native.Nat.{ℕ, zero, suc, _+_, _-_, _*_, _%_, _≤_, _<_}
 use native.Mathlib.Omega.{arith}
 use mathlib.Core.Path.{_≡_, refl, ap, _∙_}
 use mathlib.Core.Bool.{Bool, true, false, cond}
-use mathlib.Core.List.{List, []}
+use mathlib.Core.List.{List}
 use lib.Dec.{leb}
-use lib.ListN.{length, take, drop, set}
+use lib.ListN.{set}
 use borrow.Author.Tests.{le-leb, lt-leb, leb-true}
-use Rattle.spec_text.specs.Bytes.{Bytes, same}
+use Rattle.spec_text.specs.Bytes.{Bytes, same, partOf}
 use Rattle.read_fields.specs.FieldsModel.{fieldAt, hashOf}
 use Rattle.work_rows.specs.Layout.{rowsMost, dueBase, offsetAt, sameAt}
-use Rattle.read_names.specs.ChainsModel.{partOf, headAt, linkAt, follow, found, lookup, nameEntered, added, clearedFrom}
+use Rattle.read_names.specs.ChainsModel.{headAt, linkAt, follow, found, lookup, nameEntered, added, clearedFrom}
 use Rattle.read_names.proofs.Writes.{entered-new}
-
--- ---- a part of the text
-module _ (text : Bytes) (at len : ℕ) where
-  pub part-inside : at ≤ length text → len ≤ length text - at → take (at + len - at) (drop at text) ≡ partOf text at len
-  part-inside a b =
-      let d : at + len - at ≡ len = omega arith in
-      rw (d, le-leb at (length text) a, le-leb len (length text - at) b)
-
-  pub part-far : length text < at → [] ≡ partOf text at len
-  part-far a = rw (lt-leb at (length text) a)
-
-  pub part-long : at ≤ length text → length text - at < len → [] ≡ partOf text at len
-  part-long a b = rw (le-leb at (length text) a, lt-leb len (length text - at) b)
 
 -- ---- a link: s is the row's mark
 module _ (w : List ℕ) (j s : ℕ) (e : s ≡ sameAt w j) where

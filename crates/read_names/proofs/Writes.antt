@@ -9,9 +9,9 @@ use lib.Dec.{eqb, ltb}
 use lib.ListN.{length, getD, set, length-set}
 use lib.Seq.{getD-set-same, getD-set-other}
 use borrow.Author.Tests.{eqb-true, eqb-false, lt-ltb, le-ltb}
-use Rattle.spec_text.specs.Bytes.{Bytes}
+use Rattle.spec_text.specs.Bytes.{Bytes, partOf}
 use Rattle.work_rows.specs.Layout.{put, rowsMost, nameBase, headBase, dueBase, nameOf, offsetAt}
-use Rattle.read_names.specs.ChainsModel.{headAt, found, placed, nameEntered, added, clearedFrom, cleared, partOf}
+use Rattle.read_names.specs.ChainsModel.{headAt, found, placed, nameEntered, added, clearedFrom, cleared}
 
 pub eq-or-ne : (a b : ℕ) → (a ≡ b) ⊎ (a ≡ b → ⊥)
 eq-or-ne a b = go (eqb a b) refl

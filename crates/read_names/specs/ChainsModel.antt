@@ -1,18 +1,14 @@
 -- How names are found: each new name is linked to the one before it that has the same hash, from a head for each hash.
 use Prim.Native.Nat.{ℕ, zero, suc, _+_, _-_, _%_, _≤_, _<_}
-use mathlib.Core.Bool.{true, false, cond, _&&_}
+use mathlib.Core.Bool.{true, false, cond}
 use mathlib.Core.List.{List, []}
 use mathlib.Core.Path.{_≡_}
 use lib.Dec.{leb, ltb}
-use lib.ListN.{length, getD, take, drop}
-use Rattle.spec_text.specs.Bytes.{Bytes, same}
+use lib.ListN.{length, getD}
+use Rattle.spec_text.specs.Bytes.{Bytes, same, partOf}
 use Rattle.read_fields.specs.FieldsModel.{fieldAt, hashOf}
 use Rattle.work_rows.specs.Layout.{put, rowsMost, nameBase, headBase, nameOf, offsetAt, sameAt}
 use Rattle.read_names.specs.Names.{Numbered}
-
--- the part of the text from an offset on; none where it is not inside
-abbrev pub partOf : Bytes → ℕ → ℕ → Bytes
-partOf text at len = cond (leb at (length text) && leb len (length text - at)) (take len (drop at text)) []
 
 -- ---- the chain of a hash: a head, and links that fall; 0, or a row and one
 abbrev pub headAt : List ℕ → ℕ → ℕ

@@ -11,26 +11,13 @@ ghost use lib.ListN.{length};
 ghost use mathlib.Core.List.{List, []};
 ghost use Rattle.spec_text.specs.Bytes.{Bytes};
 ghost use Rattle.read_names.specs.Names.{earliest};
-ghost use Rattle.read_names.specs.ChainsModel.{Names, partOf, headAt, linkAt, found, lookup, placed, nameEntered, added, cleared};
+ghost use Rattle.read_names.specs.ChainsModel.{Names, headAt, linkAt, found, lookup, placed, nameEntered, added, cleared};
 
 // How many hashes there are.
 const HASHES: usize = 4096;
 
 // Heads stand below this.
 const HEADS: usize = 8192;
-
-// The part of the text from an offset on; none where it is not inside.
-pub fn part(text: &[u8], at: usize, len: usize) -> &[u8]
-    ensures { λ r. ⌜ now r ≡ partOf (now (text .entry)) at len ⌝ }
-{
-    if at <= text.len() {
-        if len <= text.len() - at {
-            let end = at + len;
-            return &text[at..end];
-        }
-    }
-    &text[0..0]
-}
 
 // The head of a hash's chain.
 fn head(work: &[u32], hash: usize) -> usize
@@ -105,7 +92,7 @@ pub fn add(text: &[u8], work: &mut [u32], i: usize, at: usize, len: usize, hash:
     requires { ⌜ (i < 4294967296) × (at < 4294967296) ⌝ }
     ensures { λ _. ⌜ now (work .exit) ≡ added (now (text .entry)) (now (work .entry)) i at len hash ⌝ }
 {
-    let r = find(text, work, hash, part(text, at, len));
+    let r = find(text, work, hash, read_bytes::part(text, at, len));
     enter(work, i, at, hash, r)
 }
 

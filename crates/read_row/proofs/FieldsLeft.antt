@@ -10,12 +10,12 @@ use lib.ListN.{length, drop}
 use lib.Seq.{drop-nil}
 use Rattle.spec_text.specs.Bytes.{Bytes, Part, bytes, same}
 use Rattle.spec_faults.specs.Faults.{lacksSelf}
-use Rattle.read_fields.specs.FieldsModel.{startAt, fieldAt, endOf, endByte}
+use Rattle.read_fields.specs.FieldsModel.{startAt, fieldAt, endOf, endByte, nextAt}
 use Rattle.read_fields.specs.declared.Cursor.{Cursor}
 use Rattle.read_fields.proofs.Fields.{inside, field-within}
 use Rattle.read_line.proofs.Cut.{toCome, fieldOf, before, stop, unroll}
 use Rattle.work_rows.specs.Layout.{kindAt, offsetAt}
-use Rattle.read_row.specs.RowModel.{nextAt, partsFrom, paramsOf}
+use Rattle.read_row.specs.RowModel.{partsFrom, paramsOf}
 use Rattle.read_row.proofs.Runs.{cutAt}
 
 -- ---- the fields of a line, from an offset on

@@ -1,7 +1,7 @@
 -- The line of a row, read again from the text: its span and name, and its parameters. A row keeps where its name starts, or its line if it
 -- has no name.
-use Prim.Native.Nat.{ℕ, zero, suc, _+_}
-use mathlib.Core.Bool.{true, cond}
+use Prim.Native.Nat.{ℕ, zero, suc}
+use mathlib.Core.Bool.{cond}
 use mathlib.Core.List.{List, []}
 use lib.Dec.{eqb}
 use lib.ListN.{getD, drop}
@@ -11,10 +11,6 @@ use Rattle.read_fields.specs.declared.Cursor.{Cursor}
 use Rattle.read_line.specs.LineModel.{lineAt}
 use Rattle.read_line.specs.declared.Line.{Line}
 use Rattle.work_rows.specs.Layout.{kindAt, offsetAt}
-
--- the cursor after the byte at an offset, which ends a field
-abbrev pub nextAt : Bytes → ℕ → Cursor
-nextAt text end = record { at = end + 1; more = eqb (getD text end 0) 9; ok = true }
 
 -- the fields that a cursor has still to take
 abbrev pub partsFrom : Bytes → Cursor → List Part

@@ -6,39 +6,7 @@ ghost use mathlib.Core.Path.{_≡_};
 ghost use mathlib.Core.Bool.{true};
 ghost use Prim.Native.Nat.{_<_, _≤_};
 ghost use lib.ListN.{length};
-ghost use Rattle.read_fields.specs.FieldsModel.{fieldAt};
-ghost use Rattle.spec_faults.specs.Faults.{lacksSelf};
-ghost use Rattle.read_row.specs.RowModel.{nextAt, partsFrom, paramsOf, lineStart, lineOfRow};
-
-const TAB: u8 = 9;
-
-const LF: u8 = 10;
-
-// The field at an offset.
-pub fn field(text: &[u8], at: usize) -> &[u8]
-    ensures { λ r. ⌜ now r ≡ fieldAt (now (text .entry)) at ⌝ }
-{
-    if text.len() <= at {
-        return &text[0..0];
-    }
-    let mut end = at;
-    while end < text.len() && !read_fields::is_end(text[end]) {
-        end += 1;
-    }
-    &text[at..end]
-}
-
-// The cursor after the byte at an offset, which ends a field.
-pub fn next(text: &[u8], end: usize) -> Cursor
-    requires { ⌜ end ≤ length (now text) ⌝ }
-    ensures { λ r. ⌜ r ≡ nextAt (now (text .entry)) end ⌝ }
-{
-    Cursor {
-        at: end + 1,
-        more: read_fields::byte_at(text, end) == TAB,
-        ok: true,
-    }
-}
+ghost use Rattle.read_row.specs.RowModel.{partsFrom, paramsOf, lineStart, lineOfRow};
 
 // The cursor at the first parameter of row i.
 pub fn params(text: &[u8], work: &[u32], i: usize) -> Cursor
@@ -59,23 +27,11 @@ pub fn params(text: &[u8], work: &[u32], i: usize) -> Cursor
                 ok: true,
             };
         }
-        let end = c.at + field(text, c.at).len();
-        c = next(text, end);
+        let end = c.at + read_fields::field(text, c.at).len();
+        c = read_fields::next(text, end);
         n -= 1;
     }
     c
-}
-
-// Whether the method at row i has no parameter, or another first one than `self`.
-pub fn lacks_self(text: &[u8], work: &[u32], i: usize) -> bool
-    requires { ⌜ i < 4294967296 ⌝ }
-    ensures { λ r. ⌜ r ≡ lacksSelf (paramsOf (now (text .entry)) (now (work .entry)) i) ⌝ }
-{
-    let c = params(text, work, i);
-    if c.more {
-        return !read_fields::is_field(text, c.at, b"self");
-    }
-    true
 }
 
 // Where the line starts that an offset is on.
@@ -84,7 +40,7 @@ fn line_start(text: &[u8], at: usize) -> usize
 {
     let mut start = at;
     while 0 < start {
-        if read_fields::byte_at(text, start - 1) == LF {
+        if read_bytes::byte_at(text, start - 1) == read_bytes::LF {
             return start;
         }
         start -= 1;

@@ -2,35 +2,22 @@
 -- By induction over the bytes, as `cut` goes.
 use Prim.Native.Nat.{ℕ, suc, _-_, _≤_, _<_}
 use native.Mathlib.Omega.{arith}
-use mathlib.Core.Path.{_≡_, refl, ap, subst}
+use mathlib.Core.Path.{_≡_, refl, subst}
 use mathlib.Core.Bool.{Bool, true, false}
 use mathlib.Core.List.{List, [], _∷_}
 use lib.Dec.{eqb}
-use lib.ListN.{length, take, drop, length-drop}
+use lib.ListN.{length, drop, length-drop}
 use borrow.Author.Tests.{le-leb}
-use Rattle.spec_text.specs.Bytes.{Bytes, Part}
+use Rattle.spec_text.specs.Bytes.{Bytes, Part, partOf}
 use Rattle.spec_text.specs.Lines.{cut}
 use Rattle.spec_text.proofs.Lists.{All, all-nil, all-cons, next-of}
-use Rattle.read_fields.specs.FieldsModel.{isEnd, field, fieldAt}
-use Rattle.read_names.specs.ChainsModel.{partOf}
+use Rattle.read_fields.specs.FieldsModel.{field, fieldAt}
 use Rattle.read_tree.specs.Laid.{skip}
+use Rattle.read_fields.proofs.FieldFront.{Front, field-front}
 
 -- ---- a field
 abbrev pub FieldIn : Bytes → Part → Type 0
 FieldIn text x = fieldAt text (x .offset) ≡ x .bytes
-
-pub record Front (bs x : Bytes) : Type 0 where
-  pub here : take (length x) bs ≡ x
-  short : length x ≤ length bs
-
-pub field-front : (bs : Bytes) → Front bs (field bs)
-unfolding field
-field-front [] = record { here = refl; short = omega arith }
-field-front (b ∷ bs) = go (isEnd b) (field-front bs)
-  where
-    go : (t : Bool) → Front bs (field bs) → Front (b ∷ bs) (elim t [ true ↦ [] | false ↦ b ∷ field bs ])
-    go true k = record { here = refl; short = omega arith }
-    go false k = record { here = ap (λ (l : Bytes). b ∷ l) (k .here); short = omega arith }
 
 -- a field that is not empty starts inside the text, and is a part of it
 pub field-inside : (text : Bytes) (x : Part) → FieldIn text x → (x .bytes ≡ [] → ⊥)

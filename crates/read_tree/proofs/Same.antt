@@ -9,14 +9,13 @@ use mathlib.Core.Option.{Option, none, some}
 use lib.Dec.{eqb, leb, ltb, eqb·suc-zero}
 use lib.ListN.{length, drop, length-drop}
 use borrow.Author.Tests.{leb-true, leb-false, le-leb, lt-leb, le-ltb, lt-ltb}
-use Rattle.spec_text.specs.Bytes.{Bytes}
+use Rattle.spec_text.specs.Bytes.{Bytes, partOf}
 use Rattle.spec_text.specs.Lines.{Form, Cut, cut, Parsed, parse, countAt, sortOf}
 use Rattle.spec_text.specs.Reading.{Rest, Read, got, refused, Due, line, formed, tooDeep}
 use Rattle.spec_text.proofs.Lists.{eqb-sym}
 use Rattle.spec_text.proofs.LineParts.{cut-in}
 use Rattle.read_fields.specs.FieldsModel.{fieldAt}
 use Rattle.read_line.specs.LineModel.{lineAt, cutLine, numbersOf, noLine}
-use Rattle.read_names.specs.ChainsModel.{partOf}
 use Rattle.read_tree.specs.Laid.{skip}
 use Rattle.read_agenda.specs.AgendaModel.{lineDue, ofSort}
 use Rattle.read_words.specs.ChildrenModel.{childrenOf, childrenIn, childrenBy}

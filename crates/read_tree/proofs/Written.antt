@@ -10,14 +10,14 @@ use lib.ListN.{length, getD, set, take, length-append, length-map, length-set, l
 use lib.Seq.{getD-set-other, getD-take, take-suc, take-set-lt, getD-append-seam, ext-getD}
 use lib.Dec.{ltb}
 use borrow.Author.Tests.{eq-eqb, ne-eqb, ltb-true, ltb-false}
-use Rattle.spec_text.specs.Bytes.{Bytes}
+use Rattle.spec_text.specs.Bytes.{Bytes, partOf}
 use Rattle.spec_text.specs.Tree.{Line}
 use Rattle.spec_text.specs.Lines.{Parsed}
 use Rattle.spec_text.proofs.Lists.{All, all-nil, all-cons}
 use Rattle.read_line.specs.LineModel.{numbersOf}
 use Rattle.work_rows.specs.Layout.{put, rowsMost, nameBase, dueBase, offsetAt, kindAt}
 use Rattle.read_fields.specs.FieldsModel.{fieldAt, hashOf}
-use Rattle.read_names.specs.ChainsModel.{Names, partOf, placed, added}
+use Rattle.read_names.specs.ChainsModel.{Names, placed, added}
 use Rattle.read_names.proofs.Theorems.{Outside, other-names, placed-names, placed-length, placed-offset, placed-rows, placed-outside, added-names, added-length, added-offset, added-rows, added-outside}
 use Rattle.work_rows.specs.Rows.{Row, row}
 use Rattle.read_tree.specs.Laid.{Holds, numberOf, nameIn, startOf, offsetOf}

@@ -68,7 +68,7 @@ pub fn kind_of(text: &[u8], c: Cursor) -> Kind
     ensures { λ r. ⌜ r ≡ kindFrom (now (text .entry)) c ⌝ }
 {
     let none = no_kind();
-    match read_fields::byte_at(text, c.at) {
+    match read_bytes::byte_at(text, c.at) {
         b'a' => {
             let k = or_word(none, line_kind::ASSIGN, c, text, b"assign");
             or_word(k, line_kind::ATTR, c, text, b"attr")

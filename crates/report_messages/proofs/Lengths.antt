@@ -7,9 +7,8 @@ use mathlib.Core.List.{[], _++_}
 use lib.Dec.{eqb, leb}
 use lib.ListN.{length, getD, take, drop, length-take, length-drop, length-append}
 use borrow.Author.Tests.{ne-eqb}
-use Rattle.spec_text.specs.Bytes.{Bytes}
+use Rattle.spec_text.specs.Bytes.{Bytes, partOf}
 use Rattle.spec_faults.specs.Faults.{Words, eightTexts, message}
-use Rattle.read_names.specs.ChainsModel.{partOf}
 
 -- a part is no longer than the text
 pub part-fits : (text : Bytes) (at len : ℕ) → length (partOf text at len) ≤ length text

@@ -4,9 +4,8 @@ use Prim.Native.Nat.{ℕ, _+_, _-_, _≤_}
 use mathlib.Core.Path.{_≡_}
 use mathlib.Core.List.{List, _++_}
 use lib.ListN.{length, take, drop}
-use Rattle.spec_text.specs.Bytes.{Bytes}
+use Rattle.spec_text.specs.Bytes.{Bytes, partOf}
 use Rattle.spec_faults.specs.Faults.{message}
-use Rattle.read_names.specs.ChainsModel.{partOf}
 use Rattle.report_records.specs.declared.Record.{Record}
 
 -- the message of a record

@@ -47,8 +47,8 @@ pub fn push_message(text: &[u8], out: &mut [u8], at: usize, r: Record) -> usize
     requires { ⌜ at ≤ length (now out) ⌝ }
     ensures { λ e. ⌜ Pushes (now (out .entry)) at (recordMessage (now (text .entry)) r) (now (out .exit)) e ⌝ }
 {
-    let n = read_names::part(text, r.name, r.name_len);
-    let c = read_names::part(text, r.class, r.class_len);
+    let n = read_bytes::part(text, r.name, r.name_len);
+    let c = read_bytes::part(text, r.class, r.class_len);
     let kind = r.kind;
     match kind {
         fault_kind::UNDEFINED_VARIABLE => round(out, at, b"Undefined variable: ", n, b"", c, b""),
@@ -100,8 +100,8 @@ pub fn message_len(text: &[u8], r: Record) -> usize
     requires { ⌜ length (now text) < 4294967296 ⌝ }
     ensures { λ n. ⌜ n ≡ length (recordMessage (now (text .entry)) r) ⌝ }
 {
-    let names = read_names::part(text, r.name, r.name_len).len()
-        + read_names::part(text, r.class, r.class_len).len();
+    let names = read_bytes::part(text, r.name, r.name_len).len()
+        + read_bytes::part(text, r.class, r.class_len).len();
     let kind = r.kind;
     match kind {
         fault_kind::UNDEFINED_VARIABLE => 20 + names,

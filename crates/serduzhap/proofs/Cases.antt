@@ -5,12 +5,11 @@ use mathlib.Core.Path.{_≡_, refl, sym, ap, subst}
 use mathlib.Core.List.{List, [], _∷_}
 use lib.ListN.{length}
 use borrow.Author.Tests.{lt-ltb, le-ltb, le-leb}
-use Rattle.spec_text.specs.Bytes.{Bytes, Part}
+use Rattle.spec_text.specs.Bytes.{Bytes, Part, partOf}
 use Rattle.spec_text.specs.Tree.{Tree}
 use Rattle.spec_text.specs.Reading.{Reading, tree, refusal}
 use Rattle.spec_faults.specs.Faults.{Fault, faults, records}
 use Rattle.spec_answers.specs.Answers.{accepted, faulty, firstRecord, checkOf, ReportAnswer, written, reported, reportOf, reportOut, MessageAnswer, noFault, wroteIf, messageOr, messageIn, messageOut, nthFault, nameOf, nameIn, over}
-use Rattle.read_names.specs.ChainsModel.{partOf}
 use Rattle.report_records.specs.RecordsModel.{numbers}
 use Rattle.report_messages.specs.MessagesModel.{recordMessage}
 use Rattle.find_faults.specs.declared.Answer.{Answer}

@@ -6,11 +6,10 @@ use mathlib.Core.Path.{_≡_, refl, ap, ap₂, subst, _∙_}
 use mathlib.Core.List.{List, [], _∷_, _++_, map}
 use mathlib.Core.Option.{Option, none, some}
 use lib.ListN.{length}
-use Rattle.spec_text.specs.Bytes.{Bytes}
+use Rattle.spec_text.specs.Bytes.{Bytes, partOf}
 use Rattle.spec_faults.specs.Faults.{Fault, record7, records}
 use Rattle.spec_faults.specs.Faults as F
 use Rattle.spec_answers.specs.Answers.{nthFault}
-use Rattle.read_names.specs.ChainsModel.{partOf}
 use Rattle.report_order.specs.OrderModel.{entryAt}
 use Rattle.report_records.specs.RecordsModel.{recordOf, numbers, numbers32}
 use Rattle.report_records.specs.declared.Record.{Record}

@@ -8,7 +8,7 @@ ghost use Prim.Native.Nat.{_<_, _≤_, _*_};
 ghost use lib.ListN.{length};
 ghost use Rattle.spec_answers.specs.Answers.{messageOut, wroteIf, name, over};
 ghost use Rattle.report_messages.specs.MessagesModel.{recordMessage};
-ghost use Rattle.read_names.specs.ChainsModel.{partOf};
+ghost use Rattle.spec_text.specs.Bytes.{partOf};
 ghost use Rattle.serduzhap.specs.Calls.{Checks, Reports, messageSays, Messages, partSays, recordsOf};
 
 // Accepted; the record of the first fault; or a refusal, by number and line.
@@ -147,5 +147,5 @@ pub fn name<'a>(text: &'a [u8], work: &mut [u32], i: usize) -> &'a [u8]
     ensures { λ r. ⌜ now r ≡ name (now (text .entry)) (length (now (work .entry))) i .bytes ⌝ }
 {
     let p = name_part(text, work, i);
-    read_names::part(text, p.offset, p.len)
+    read_bytes::part(text, p.offset, p.len)
 }

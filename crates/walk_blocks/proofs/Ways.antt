@@ -7,13 +7,13 @@ use mathlib.Core.List.{List}
 use lib.ListN.{length}
 use borrow.Author.Tests.{eq-eqb, ne-eqb}
 use Rattle.spec_text.specs.Bytes.{Bytes}
-use Rattle.read_fields.specs.FieldsModel.{fieldAt}
+use Rattle.read_fields.specs.FieldsModel.{fieldAt, nextAt}
 use Rattle.read_fields.specs.declared.Cursor.{Cursor}
 use Rattle.read_names.specs.ChainsModel.{lookup}
 use Rattle.walk_scopes.specs.ScopesModel.{aDef, owns, defined}
 use Rattle.walk_scopes.specs.declared.ScopeStack.{ScopeStack}
 use Rattle.walk_own_names.specs.OwnNamesModel.{noted, allNoted}
-use Rattle.read_row.specs.RowModel.{nextAt, partsFrom, paramsOf}
+use Rattle.read_row.specs.RowModel.{partsFrom, paramsOf}
 use Rattle.read_row.proofs.FieldsLeft.{parts-more, parts-none}
 use Rattle.walk_blocks.specs.BlocksModel.{enteredOne, entered, opened, reopened}
 

@@ -25,10 +25,10 @@ fn enter(text: &[u8], work: &mut [u32], s: ScopeStack, i: usize)
 {
     let mut c = read_row::params(text, work, i);
     while c.more {
-        let name = read_row::field(text, c.at);
+        let name = read_fields::field(text, c.at);
         let end = c.at + name.len();
         enter_one(text, work, s, name);
-        c = read_row::next(text, end);
+        c = read_fields::next(text, end);
     }
 }
 

@@ -6,6 +6,8 @@ use walk_scopes::ScopeStack;
 use work_marks::MARKS;
 ghost use mathlib.Core.Path.{_≡_};
 ghost use Prim.Native.Nat.{_<_};
+ghost use Rattle.spec_faults.specs.Faults.{lacksSelf};
+ghost use Rattle.read_row.specs.RowModel.{paramsOf};
 ghost use Rattle.walk_judge.specs.JudgeModel.{unboundKind, undefinedKind, faulted, readOf};
 
 // The kind of a fault of an own name that is not assigned.
@@ -68,4 +70,16 @@ pub fn read(work: &mut [u32], s: ScopeStack, called: bool, name: usize, i: usize
         return;
     }
     fault(work, s, name, i, undefined_kind(s, called))
+}
+
+// Whether the method at row i has no parameter, or another first one than `self`.
+pub fn lacks_self(text: &[u8], work: &[u32], i: usize) -> bool
+    requires { ⌜ i < 4294967296 ⌝ }
+    ensures { λ r. ⌜ r ≡ lacksSelf (paramsOf (now (text .entry)) (now (work .entry)) i) ⌝ }
+{
+    let c = read_row::params(text, work, i);
+    if c.more {
+        return !read_fields::is_field(text, c.at, b"self");
+    }
+    true
 }

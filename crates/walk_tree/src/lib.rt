@@ -150,7 +150,7 @@ fn judge_method(text: &[u8], work: &mut [u32], i: usize)
     requires { ⌜ i < 4294967296 ⌝ }
     ensures { λ _. ⌜ now (work .exit) ≡ methodAt (now (text .entry)) i (now (work .entry)) ⌝ }
 {
-    if read_row::lacks_self(text, work, i) {
+    if walk_judge::lacks_self(text, work, i) {
         work_marks::put_slot(work, i, fault_kind::METHOD_WITHOUT_SELF);
     }
 }

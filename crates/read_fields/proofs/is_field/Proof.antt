@@ -6,7 +6,8 @@ use native.Mathlib.Nat.{add-zero, add-assoc}
 use native.Mathlib.Omega.{arith}
 use lib.ListN.{length, getD, drop, drop-of-length-le}
 use Rattle.spec_text.specs.Bytes.{Bytes, same}
-use Rattle.read_fields.specs.FieldsModel.{isEnd, field, fieldAt, endsAt}
+use Rattle.read_fields.specs.FieldsModel.{field, fieldAt, endsAt}
+use Rattle.read_bytes.specs.BytesModel.{isEnd}
 use Rattle.read_fields.proofs.Fields.{clash, never, field-within, same-nothing, same-length, same-first, same-more, same-none}
 use Rattle.read_fields.proofs.is_field.Statement.{statement}
 use Rattle.read_fields.proofs.is_field.Tie as tie

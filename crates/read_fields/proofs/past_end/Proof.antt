@@ -4,7 +4,7 @@ use mathlib.Core.Bool.{true}
 use native.Mathlib.Omega.{arith}
 use lib.ListN.{getD}
 use borrow.Author.Needs.{needs}
-use Rattle.read_fields.specs.FieldsModel.{isEnd}
+use Rattle.read_bytes.specs.BytesModel.{isEnd}
 use Rattle.read_fields.proofs.Fields.{tested, inside}
 use Rattle.read_fields.proofs.past_end.Statement.{statement}
 use Rattle.read_fields.proofs.past_end.Tie as tie

@@ -4,7 +4,7 @@ use native.Mathlib.Omega.{arith}
 use mathlib.Core.Path.{sym, ap}
 use lib.ListN.{length}
 use borrow.Author.Needs.{needs}
-use Rattle.read_names.specs.ChainsModel.{partOf}
+use Rattle.spec_text.specs.Bytes.{partOf}
 use Rattle.report_messages.proofs.Lengths.{part-fits, length-said, message-other}
 use Rattle.report_messages.proofs.message_len.Statement.{statement}
 use Rattle.report_messages.proofs.message_len.Tie as tie

@@ -1,9 +1,9 @@
 -- The three ways of the two tests.
 use mathlib.Core.Logic.{⊎-elim}
 use borrow.Author.Needs.{needs}
-use Rattle.read_names.proofs.Turns.{part-inside, part-far, part-long}
-use Rattle.read_names.proofs.part.Statement.{statement}
-use Rattle.read_names.proofs.part.Tie as tie
+use Rattle.read_bytes.proofs.Parts.{part-inside, part-far, part-long}
+use Rattle.read_bytes.proofs.part.Statement.{statement}
+use Rattle.read_bytes.proofs.part.Tie as tie
 
 sub-if2 : tie.Need-sub-if2
 sub-if2 c = search needs

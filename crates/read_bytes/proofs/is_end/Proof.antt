@@ -5,9 +5,9 @@ use Prim.Native.Nat.{ℕ, _≤_, _<_}
 use native.Mathlib.Omega.{arith}
 use lib.Dec.{eqb}
 use borrow.Author.Tests.{eqb-false, eq-eqb, ne-eqb}
-use Rattle.read_fields.specs.FieldsModel.{isEnd}
-use Rattle.read_fields.proofs.is_end.Statement.{statement}
-use Rattle.read_fields.proofs.is_end.Tie as tie
+use Rattle.read_bytes.specs.BytesModel.{isEnd}
+use Rattle.read_bytes.proofs.is_end.Statement.{statement}
+use Rattle.read_bytes.proofs.is_end.Tie as tie
 
 end : (b : ℕ) → 9 ≤ b → b < 11 → isEnd b ≡ true
 end b l h = go (eqb b 9) refl

@@ -1,7 +1,7 @@
 -- `next` stands past the byte at an offset: after a tab there is one more field.
 use borrow.Author.Needs.{needs}
-use Rattle.read_row.proofs.next.Statement.{statement}
-use Rattle.read_row.proofs.next.Tie as tie
+use Rattle.read_fields.proofs.next.Statement.{statement}
+use Rattle.read_fields.proofs.next.Tie as tie
 
 add-t3 : tie.Need-add-t3
 add-t3 c = search needs

@@ -1,8 +1,8 @@
 -- `is_digit` is `isDigit`: each way through the `match` has the orders that decide its two tests.
 use borrow.Author.Tests.{le-leb, lt-leb}
 use native.Mathlib.Omega.{arith}
-use Rattle.read_fields.proofs.is_digit.Statement.{statement}
-use Rattle.read_fields.proofs.is_digit.Tie as tie
+use Rattle.read_bytes.proofs.is_digit.Statement.{statement}
+use Rattle.read_bytes.proofs.is_digit.Tie as tie
 
 returns : tie.Need-returns
 returns c = let b = c .before .before .args .b in rw (le-leb 48 b (omega arith), le-leb b 57 (omega arith))

@@ -5,11 +5,11 @@ use Prim.Native.Nat.{_-_, _≤_}
 use native.Mathlib.Omega.{arith}
 use lib.ListN.{length}
 use borrow.Author.Tests.{not-true, not-false}
 use Rattle.read_fields.specs.FieldsModel.{endOf}
 use Rattle.read_fields.proofs.Fields.{field-end}
-use Rattle.read_row.proofs.Loops.{field-past, end-more, field-whole}
-use Rattle.read_row.proofs.field.Statement.{statement}
-use Rattle.read_row.proofs.field.Tie as tie
+use Rattle.read_fields.proofs.FieldFront.{field-past, end-more, field-whole}
+use Rattle.read_fields.proofs.field.Statement.{statement}
+use Rattle.read_fields.proofs.field.Tie as tie
 
 abbrev Inv-loop : tie.InvT-loop
 Inv-loop text at end₀ end = (at ≤ end) × ((end ≤ length text) × (endOf text at ≡ endOf text end))

@@ -1,8 +1,8 @@
 -- `lacks_self` looks at the first parameter, if there is one.
 use borrow.Author.Needs.{needs}
 use Rattle.read_row.proofs.FieldsLeft.{lacks-other, lacks-any}
-use Rattle.read_row.proofs.lacks_self.Statement.{statement}
-use Rattle.read_row.proofs.lacks_self.Tie as tie
+use Rattle.walk_judge.proofs.lacks_self.Statement.{statement}
+use Rattle.walk_judge.proofs.lacks_self.Tie as tie
 
 params-requires : tie.Need-params-requires
 params-requires c κs = search needs

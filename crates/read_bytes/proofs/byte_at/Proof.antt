@@ -4,8 +4,8 @@ use Prim.Native.Nat.{_≤_}
 use native.Mathlib.Omega.{arith}
 use lib.ListN.{length, List·getD-eq-default}
 use borrow.Author.Needs.{needs}
-use Rattle.read_fields.proofs.byte_at.Statement.{statement}
-use Rattle.read_fields.proofs.byte_at.Tie as tie
+use Rattle.read_bytes.proofs.byte_at.Statement.{statement}
+use Rattle.read_bytes.proofs.byte_at.Tie as tie
 
 shared-slice-read-result : tie.Need-shared-slice-read-result
 shared-slice-read-result c = omega arith

@@ -1,8 +1,8 @@
 -- `is_name_byte` is `isNameByte`: each way through the `match` has the orders that decide the tests.
 use borrow.Author.Tests.{le-leb, lt-leb, ne-eqb}
 use native.Mathlib.Omega.{arith}
-use Rattle.read_fields.proofs.is_name_byte.Statement.{statement}
-use Rattle.read_fields.proofs.is_name_byte.Tie as tie
+use Rattle.read_bytes.proofs.is_name_byte.Statement.{statement}
+use Rattle.read_bytes.proofs.is_name_byte.Tie as tie
 
 -- below '0', between '9' and 'A', between 'Z' and 'a', above 'z'
 returns : tie.Need-returns

@@ -1,0 +1,2 @@
+-- Parts: a part of the text.
+pub mod Parts
