@@ -6,37 +6,37 @@ use mathlib.Core.List.{List, [], _∷_}
 use lib.ListN.{length, getD, length-set}
 use lib.Seq.{getD-set-same, getD-set-other}
 use Rattle.spec_text.specs.Bytes.{Bytes}
-use Rattle.work_rows.specs.Layout.{put, dueBase}
+use Rattle.work_rows.specs.Layout.{put}
+use Rattle.report_order.specs.OrderModel.{entryBase, stored}
 use Rattle.read_row.specs.RowModel.{lineOfRow}
-use Rattle.report_order.specs.OrderModel.{stored}
 
 -- what stands before the j-th
 stored-before : (es : List ℕ) (j : ℕ) (w : List ℕ) (k : ℕ) → k < 12_288 + j → getD (stored es j w) k 0 ≡ getD w k 0
 unfolding stored
 stored-before [] j w k l = refl
 stored-before (e ∷ es) j w k l =
-    stored-before es (j + 1) (put w (dueBase + j) e) k (omega arith) ∙ getD-set-other w (dueBase + j) k _ 0 (λ d. omega arith)
+    stored-before es (j + 1) (put w (entryBase + j) e) k (omega arith) ∙ getD-set-other w (entryBase + j) k _ 0 (λ d. omega arith)
 
 -- the i-th of those that are written from the j-th on
 stored-at : (es : List ℕ) (j : ℕ) (w : List ℕ) (i : ℕ) → i < length es → 12_288 + j + length es ≤ length w → getD es i 0 < 4_294_967_296
-    → getD (stored es j w) (dueBase + (j + i)) 0 ≡ getD es i 0
+    → getD (stored es j w) (entryBase + (j + i)) 0 ≡ getD es i 0
 unfolding stored
 stored-at [] j w i l room small = absurd (omega arith)
 stored-at (e ∷ es) j w zero l room small =
-    let q : dueBase + (j + 0) ≡ dueBase + j = omega arith in
-    ap (λ k. getD (stored es (j + 1) (put w (dueBase + j) e)) k 0) q
-    ∙ (stored-before es (j + 1) (put w (dueBase + j) e) (dueBase + j) (omega arith) ∙ (getD-set-same w (dueBase + j) _ 0 (omega arith) ∙ omega arith))
+    let q : entryBase + (j + 0) ≡ entryBase + j = omega arith in
+    ap (λ k. getD (stored es (j + 1) (put w (entryBase + j) e)) k 0) q
+    ∙ (stored-before es (j + 1) (put w (entryBase + j) e) (entryBase + j) (omega arith) ∙ (getD-set-same w (entryBase + j) _ 0 (omega arith) ∙ omega arith))
 stored-at (e ∷ es) j w (suc i) l room small =
-    let q : dueBase + (j + suc i) ≡ dueBase + (j + 1 + i) = omega arith in
-    ap (λ k. getD (stored es (j + 1) (put w (dueBase + j) e)) k 0) q
-    ∙ stored-at es (j + 1) (put w (dueBase + j) e) i (omega arith) (omega (arith, length-set w (dueBase + j) (e % 4_294_967_296))) small
+    let q : entryBase + (j + suc i) ≡ entryBase + (j + 1 + i) = omega arith in
+    ap (λ k. getD (stored es (j + 1) (put w (entryBase + j) e)) k 0) q
+    ∙ stored-at es (j + 1) (put w (entryBase + j) e) i (omega arith) (omega (arith, length-set w (entryBase + j) (e % 4_294_967_296))) small
 
 -- ---- all of them
 module _ (es : List ℕ) (w : List ℕ) where
   pub entry-stored : (j : ℕ) → j < length es → length es ≤ 4_096 → 16_384 ≤ length w → getD es j 0 < 4_294_967_296
-      → getD (stored es 0 w) (dueBase + j) 0 ≡ getD es j 0
+      → getD (stored es 0 w) (entryBase + j) 0 ≡ getD es j 0
   entry-stored j l few room small =
-      let q : dueBase + j ≡ dueBase + (0 + j) = omega arith in
+      let q : entryBase + j ≡ entryBase + (0 + j) = omega arith in
       ap (λ k. getD (stored es 0 w) k 0) q ∙ stored-at es 0 w j l (omega arith) small
 
   pub line-stored : (text : Bytes) (i : ℕ) → i < 4_096 → lineOfRow text (stored es 0 w) i ≡ lineOfRow text w i

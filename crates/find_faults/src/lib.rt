@@ -23,7 +23,7 @@ pub fn find(text: &[u8], work: &mut [u32]) -> Answer
         Read::Tree { globals, lines } => {
             walk_tree::walk(text, work, globals, lines);
             Answer::Faults {
-                count: report_order::list(work, globals, lines),
+                count: report_order::list_faults(work, globals, lines),
             }
         }
         Read::Refused { number, line } => Answer::Refused {

@@ -55,8 +55,8 @@ fn record_at(report: &[u32], at: usize) -> Record
 {
     Record {
         kind: work_rows::get(report, at),
-        start: get(report, at + 1),
-        end: get(report, at + 2),
+        start: number_at(report, at + 1),
+        end: number_at(report, at + 2),
         name: work_rows::get(report, at + 3),
         name_len: work_rows::get(report, at + 4),
         class: work_rows::get(report, at + 5),
@@ -64,7 +64,7 @@ fn record_at(report: &[u32], at: usize) -> Record
     }
 }
 
-fn get(report: &[u32], i: usize) -> u32
+fn number_at(report: &[u32], i: usize) -> u32
     ensures { λ r. ⌜ r ≡ getD (now (report .entry)) i 0 ⌝ }
 {
     if i < report.len() { report[i] } else { 0 }

@@ -13,8 +13,8 @@ use borrow.Author.Tests.{eqb-true, eqb-false, eq-eqb, ne-eqb, leb-true, leb-fals
 use Rattle.spec_faults.specs.Faults.{Fault, capture, byPlace}
 use Rattle.spec_faults.proofs.Lists.{All, none, also, and-split}
 use Rattle.spec_faults.proofs.Once.{placed}
-use Rattle.work_rows.specs.Layout.{kindAt}
-use Rattle.work_marks.specs.MarksModel.{linesBelow, afterRow, slotAt}
+use Rattle.work_rows.specs.Layout.{kindAt, linesBelow, afterRow}
+use Rattle.work_marks.specs.MarksModel.{slotAt}
 use Rattle.work_rows.specs.Rows.{Row}
 use Rattle.read_tree.specs.Laid.{noRow}
 use Rattle.proof_walk.specs.Slots.{Key, keyOf, slotsFrom, keys}

@@ -11,11 +11,11 @@ use borrow.Author.Tests.{lt-leb, lt-ltb}
 use Rattle.spec_text.specs.Bytes.{Bytes, Part}
 use Rattle.spec_text.specs.Tree.{Stmt, simple, assign, block, choice, for, def, class, lenS}
 use Rattle.spec_faults.specs.Faults.{lacksSelf}
-use Rattle.work_rows.specs.Layout.{rowsMost, kindAt, numberAt}
+use Rattle.work_rows.specs.Layout.{rowsMost, kindAt, numberAt, afterRow}
 use Rattle.work_rows.specs.Rows.{Row, rowsS}
-use Rattle.work_marks.specs.MarksModel.{afterRow, putSlot}
-use Rattle.work_marks.specs.LoopsModel.{rowsTo}
-use Rattle.work_marks.proofs.Loops.{rows-more}
+use Rattle.work_marks.specs.MarksModel.{putSlot}
+use Rattle.work_rows.specs.LoopsModel.{rowsTo}
+use Rattle.work_rows.proofs.Loops.{rows-more}
 use Rattle.walk_scopes.specs.ScopesModel.{aDef, aMethod, module′, pushed, defined}
 use Rattle.walk_scopes.specs.declared.ScopeStack.{ScopeStack}
 use Rattle.read_row.specs.RowModel.{paramsOf}

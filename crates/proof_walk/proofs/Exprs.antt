@@ -17,13 +17,13 @@ use Rattle.spec_faults.specs.Faults.{Fault}
 use Rattle.spec_faults.proofs.ListingWalk.{State, Env}
 use Rattle.spec_faults.proofs.InTextOrder.{rawE, rawEs}
 use Rattle.spec_faults.proofs.Deduped.{dedupe, seenAfter}
-use Rattle.work_rows.specs.Layout.{rowsMost, kindAt, numberAt}
+use Rattle.work_rows.specs.Layout.{rowsMost, kindAt, numberAt, afterRow}
 use Rattle.work_rows.specs.Rows.{Row, row, rowsE, rowsEs}
 use Rattle.work_rows.proofs.Lengths.{sized-e}
-use Rattle.work_marks.specs.MarksModel.{lambdaEnd, blockEnd, slotAt, stampAt, afterRow}
-use Rattle.work_marks.specs.LoopsModel.{rowsTo}
+use Rattle.work_marks.specs.MarksModel.{lambdaEnd, blockEnd, slotAt, stampAt}
+use Rattle.work_rows.specs.LoopsModel.{rowsTo}
 use Rattle.work_marks.proofs.Writes.{Kept}
-use Rattle.work_marks.proofs.Loops.{rows-end, rows-more}
+use Rattle.work_rows.proofs.Loops.{rows-end, rows-more}
 use Rattle.walk_scopes.specs.ScopesModel.{pushedLambda}
 use Rattle.walk_scopes.specs.declared.ScopeStack.{ScopeStack}
 use Rattle.read_row.specs.Worded.{NodeWord, lit, un, bin, list, set, treeset, dict, AccessWord, index, get, WordedE, WordedEs}

@@ -14,10 +14,10 @@ use borrow.Author.Tests.{eqb-true, eqb-false, ne-eqb, ltb-true}
 use Rattle.spec_text.specs.Bytes.{Bytes, Part, same, mem}
 use Rattle.spec_text.specs.Tree.{Line, Stmts, def, lenS, lenSs}
 use Rattle.spec_text.proofs.Lists.{same-eq, same-false}
-use Rattle.work_rows.specs.Layout.{put, rowsMost, headBase, dueBase}
+use Rattle.work_rows.specs.Layout.{put, rowsMost, headBase}
+use Rattle.work_marks.specs.MarksModel.{stampBase, lambdaEnd, blockEnd, slotAt, stampAt, putStamp, raisedBlock}
 use Rattle.read_names.specs.ChainsModel.{lookup}
 use Rattle.work_rows.specs.Rows.{Row, row, rowsS}
-use Rattle.work_marks.specs.MarksModel.{lambdaEnd, blockEnd, slotAt, stampAt, putStamp, raisedBlock}
 use Rattle.work_marks.proofs.Writes.{Words, Kept, kept-refl, kept-trans, raised-block-same, raised-block-other, raised-block-lambda, raised-block-slot, raised-block-stamp, kept-raised-block, words-raised-block, stamp-apart}
 use Rattle.walk_scopes.specs.declared.ScopeStack.{ScopeStack}
 use Rattle.walk_scopes.specs.ScopesModel.{owns, defined}
@@ -45,7 +45,7 @@ module _ (w : List ℕ) (c e : ℕ) where
   raise-put a v = go (ltb c rowsMost) refl
     where
       swap : (k : ℕ) → c < 4_096 → (t : Bool) → putStamp (cond t (put w (headBase + c) k) w) a v ≡ cond t (put (putStamp w a v) (headBase + c) k) (putStamp w a v)
-      swap k l true = set-comm w (headBase + c) (dueBase + a) (k % 4_294_967_296) (v % 4_294_967_296) (λ q. omega arith)
+      swap k l true = set-comm w (headBase + c) (stampBase + a) (k % 4_294_967_296) (v % 4_294_967_296) (λ q. omega arith)
       swap k l false = refl
 
       go : (s : Bool) → ltb c rowsMost ≡ s → putStamp (markedIn w (getD w (headBase + c) 0) s) a v ≡ markedIn (putStamp w a v) (getD (putStamp w a v) (headBase + c) 0) s

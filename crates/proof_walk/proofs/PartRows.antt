@@ -12,13 +12,12 @@ use borrow.Author.Tests.{ltb-true}
 use Rattle.spec_text.specs.Bytes.{Bytes, same}
 use Rattle.spec_text.specs.Tree.{Line, Expr, Stmt, var, node, access, tuple, call, lambda, simple, assign, block, choice, for, def, class, lenE, lenS}
 use Rattle.read_fields.specs.FieldsModel.{fieldAt, hashOf}
-use Rattle.work_rows.specs.Layout.{rowsMost, kindAt, numberAt, offsetAt, sameAt}
+use Rattle.work_rows.specs.Layout.{rowsMost, kindAt, numberAt, offsetAt, sameAt, linesBelow, afterRow}
 use Rattle.read_names.proofs.Turns.{link-falls}
 use Rattle.read_names.specs.ChainsModel.{headAt, linkAt, follow, lookup}
 use Rattle.work_rows.specs.Rows.{Row, row, rowsE, rowsS}
 use Rattle.read_tree.specs.Laid.{noRow}
 use Rattle.work_rows.proofs.Lengths.{Sized}
-use Rattle.work_marks.specs.MarksModel.{linesBelow, afterRow}
 use Rattle.work_marks.proofs.Writes.{Kept, kept-kind, kept-number}
 use Rattle.read_row.specs.RowModel.{paramsOf, paramsAt}
 use Rattle.read_row.specs.Worded.{Some}

@@ -19,14 +19,14 @@ use Rattle.spec_faults.specs.Builtins.{builtinNames}
 use Rattle.spec_faults.proofs.ListingWalk.{State, afterSs, moduleEnv, startState}
 use Rattle.spec_faults.proofs.Lists.{mem-append}
 use Rattle.spec_faults.proofs.InTextOrder.{rawSs}
-use Rattle.work_rows.specs.Layout.{put, rowsMost, headBase, numberAt}
+use Rattle.work_rows.specs.Layout.{put, rowsMost, headBase, numberAt, afterRow}
 use Rattle.read_names.specs.ChainsModel.{lookup}
 use Rattle.work_rows.specs.Rows.{Row, globalRow, rowsSs, rowsT}
 use Rattle.read_tree.specs.Laid.{noRow}
 use Rattle.work_rows.proofs.Lengths.{rows-length}
-use Rattle.work_marks.specs.MarksModel.{afterRow, lambdaEnd, blockEnd, slotAt, stampAt, putStamp, raisedBlock}
+use Rattle.work_marks.specs.MarksModel.{lambdaEnd, blockEnd, slotAt, stampAt, putStamp, raisedBlock}
 use Rattle.work_marks.proofs.Writes.{Words, Kept, kept-refl, kept-trans, words-put, kept-stamp, words-stamp, stamp-same, stamp-other, stamp-apart}
-use Rattle.work_marks.proofs.Loops.{rows-end}
+use Rattle.work_rows.proofs.Loops.{rows-end}
 use Rattle.walk_scopes.specs.ScopesModel.{atModule, defined}
 use Rattle.walk_scopes.specs.declared.ScopeStack.{ScopeStack}
 use Rattle.walk_scopes.proofs.Define.{defined-block}

@@ -14,11 +14,11 @@ use Rattle.spec_faults.specs.Faults.{Fault, unless, lacksSelf, selfless}
 use Rattle.spec_faults.proofs.ListingWalk.{State, Env, assigning, naming, entered, afterT, afterS, afterSs, defEnv, methodEnv, inClasses, selfFault}
 use Rattle.spec_faults.proofs.InTextOrder.{rawE, rawEs, rawT, rawS, rawSs, rawMs}
 use Rattle.spec_faults.proofs.Deduped.{seenAfter}
-use Rattle.work_rows.specs.Layout.{kindAt}
+use Rattle.work_rows.specs.Layout.{kindAt, afterRow}
 use Rattle.work_rows.specs.Rows.{Row, row, rowsE, rowsEs, rowsAs, rowsS, rowsSs, rowsMs}
 use Rattle.work_rows.proofs.Lengths.{sized-e, sized-s, sized-ss, sized-ms}
-use Rattle.work_marks.specs.MarksModel.{afterRow, stampAt, putSlot}
-use Rattle.work_marks.proofs.Loops.{rows-end}
+use Rattle.work_marks.specs.MarksModel.{stampAt, putSlot}
+use Rattle.work_rows.proofs.Loops.{rows-end}
 use Rattle.work_marks.proofs.Writes.{raised-block-stamp}
 use Rattle.walk_scopes.specs.ScopesModel.{aDef, aMethod, module′, pushed, defined}
 use Rattle.walk_scopes.specs.declared.ScopeStack.{ScopeStack}

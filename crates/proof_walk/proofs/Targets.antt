@@ -14,12 +14,12 @@ use Rattle.spec_faults.specs.Position.{inDef}
 use Rattle.spec_faults.specs.Faults.{Fault, refusedAt}
 use Rattle.spec_faults.proofs.ListingWalk.{State, Env, afterT, afterTs}
 use Rattle.spec_faults.proofs.InTextOrder.{rawEs, rawT, rawTs}
-use Rattle.work_rows.specs.Layout.{kindAt, numberAt}
+use Rattle.work_rows.specs.Layout.{kindAt, numberAt, afterRow}
 use Rattle.work_rows.specs.Rows.{Row, row, rowsE, rowsEs}
 use Rattle.work_rows.proofs.Lengths.{sized-e}
-use Rattle.work_marks.specs.MarksModel.{afterRow, putSlot}
-use Rattle.work_marks.specs.LoopsModel.{rowsTo}
-use Rattle.work_marks.proofs.Loops.{rows-more}
+use Rattle.work_marks.specs.MarksModel.{putSlot}
+use Rattle.work_rows.specs.LoopsModel.{rowsTo}
+use Rattle.work_rows.proofs.Loops.{rows-more}
 use Rattle.walk_scopes.specs.ScopesModel.{defined}
 use Rattle.walk_scopes.specs.declared.ScopeStack.{ScopeStack}
 use Rattle.walk_own_names.specs.OwnNamesModel.{never}

@@ -4,11 +4,10 @@ use mathlib.Core.Path.{_≡_}
 use mathlib.Core.List.{List, [], _++_}
 use lib.ListN.{length, getD, drop}
 use Rattle.spec_text.specs.Bytes.{Bytes}
-use Rattle.work_rows.specs.Layout.{kindAt, numberAt}
+use Rattle.work_rows.specs.Layout.{kindAt, numberAt, linesBelow}
 use Rattle.read_names.specs.ChainsModel.{headAt, lookup}
 use Rattle.work_rows.specs.Rows.{Row}
 use Rattle.read_tree.specs.Laid.{noRow}
-use Rattle.work_marks.specs.MarksModel.{linesBelow}
 use Rattle.read_row.specs.RowModel.{paramsOf}
 use Rattle.read_row.specs.Worded.{Some}
 

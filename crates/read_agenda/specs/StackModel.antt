@@ -3,10 +3,14 @@ use Prim.Native.Nat.{ℕ, _+_, _-_, _*_, _/_}
 use mathlib.Core.Bool.{Bool, cond}
 use mathlib.Core.List.{List}
 use lib.Dec.{eqb, leb}
-use Rattle.work_rows.specs.Layout.{put, dueBase}
+use Rattle.work_rows.specs.Layout.{put}
 use Rattle.read_words.specs.declared.Children.{Children}
 
 -- an entry is sort + 8 * levels + 1024 * count, or 7 + 1024 * row to close a row
+-- where the agenda stands
+abbrev pub agendaBase : ℕ
+agendaBase = 12_288
+
 pub record Stack : Type 0 where
   pub work : List ℕ
   pub top : ℕ
@@ -21,10 +25,10 @@ abbrev pub closeWord : ℕ → ℕ
 closeWord i = 7 + 1_024 * i
 
 unfoldable pub pushed : ℕ → ℕ → ℕ → Stack → Stack
-pushed s n d x = cond (eqb n 0) x (stack (put (x .work) (dueBase + x .top) (runWord s n d)) (x .top + 1))
+pushed s n d x = cond (eqb n 0) x (stack (put (x .work) (agendaBase + x .top) (runWord s n d)) (x .top + 1))
 
 unfoldable pub pushedClose : ℕ → Stack → Stack
-pushedClose i x = stack (put (x .work) (dueBase + x .top) (closeWord i)) (x .top + 1)
+pushedClose i x = stack (put (x .work) (agendaBase + x .top) (closeWord i)) (x .top + 1)
 
 unfoldable pub pushedBelow : ℕ → Children → ℕ → Stack → Stack
 pushedBelow i c d x =
@@ -39,4 +43,4 @@ pushedDue i c d x = cond (isLeaf c) x (pushedBelow i c d x)
 
 -- one of the lines of the entry e, which is on top, is taken
 unfoldable pub lessened : ℕ → Stack → Stack
-lessened e x = cond (leb (e / 1_024) 1) (stack (x .work) (x .top - 1)) (stack (put (x .work) (dueBase + x .top - 1) (e - 1_024)) (x .top))
+lessened e x = cond (leb (e / 1_024) 1) (stack (x .work) (x .top - 1)) (stack (put (x .work) (agendaBase + x .top - 1) (e - 1_024)) (x .top))

@@ -1,11 +1,13 @@
 // The agenda: which lines are due, the next one on top, as a stack in the work buffer.
 use read_words::Children;
 use spec_text::sort;
-use work_rows::DUE_BASE;
 ghost use mathlib.Core.Path.{_≡_};
 ghost use Prim.Native.Nat.{_+_, _<_, _≤_};
 ghost use Rattle.read_words.specs.ChildrenModel.{Few};
 ghost use Rattle.read_agenda.specs.StackModel.{stack, pushed, pushedClose, pushedBelow, isLeaf, pushedDue, lessened};
+
+// Where the agenda stands.
+pub const AGENDA_BASE: usize = 12288;
 
 // An entry of the agenda is a sort of lines, SORTS times the levels left, and LEVELS times how many are due; or CLOSE and LEVELS times a row.
 pub const SORTS: usize = 8;
@@ -24,7 +26,7 @@ pub fn push(work: &mut [u32], top: usize, sort: usize, n: usize, d: usize) -> us
     if n == 0 {
         return top;
     }
-    work_rows::put(work, DUE_BASE + top, sort + SORTS * d + LEVELS * n);
+    work_rows::put(work, AGENDA_BASE + top, sort + SORTS * d + LEVELS * n);
     top + 1
 }
 
@@ -33,7 +35,7 @@ fn push_close(work: &mut [u32], top: usize, i: usize) -> usize
     requires { ⌜ (top < 1048576) × (i ≤ 4096) ⌝ }
     ensures { λ r. ⌜ (stack (now (work .exit)) r ≡ pushedClose i (stack (now (work .entry)) top)) × (r ≤ top + 1) ⌝ }
 {
-    work_rows::put(work, DUE_BASE + top, CLOSE + LEVELS * i);
+    work_rows::put(work, AGENDA_BASE + top, CLOSE + LEVELS * i);
     top + 1
 }
 
@@ -71,13 +73,13 @@ pub fn push_due(work: &mut [u32], top: usize, i: usize, c: Children, d: usize) -
 }
 
 // One of the lines of the entry e, which is on top, is taken.
-pub fn less(work: &mut [u32], top: usize, e: usize) -> usize
+pub fn one_less(work: &mut [u32], top: usize, e: usize) -> usize
     requires { ⌜ (0 < top) × (top < 1048576) ⌝ }
     ensures { λ r. ⌜ (stack (now (work .exit)) r ≡ lessened e (stack (now (work .entry)) top)) × (r ≤ top) ⌝ }
 {
     if e / LEVELS <= 1 {
         return top - 1;
     }
-    work_rows::put(work, DUE_BASE + top - 1, e - LEVELS);
+    work_rows::put(work, AGENDA_BASE + top - 1, e - LEVELS);
     top
 }

@@ -14,7 +14,7 @@ use lib.ListN.{length, getD, length-set}
 use lib.Seq.{getD-set-same, getD-set-other}
 use Rattle.spec_text.specs.Bytes.{Bytes, partOf}
 use Rattle.read_fields.specs.FieldsModel.{fieldAt, hashOf}
-use Rattle.work_rows.specs.Layout.{put, rowsMost, nameBase, headBase, dueBase, nameOf, offsetAt, sameAt}
+use Rattle.work_rows.specs.Layout.{put, rowsMost, nameBase, headBase, headEnd, nameOf, offsetAt, sameAt}
 use Rattle.read_names.specs.Names.{earliest}
 use Rattle.read_names.specs.ChainsModel.{headAt, found, placed, nameEntered, added, cleared, New, Link, Names}
 use Rattle.read_names.proofs.Earliest.{more, First, Absent, sought, earliest-first, earliest-absent, first-more, first-new, earliest-more, more-old, more-new, more-length}
@@ -84,7 +84,7 @@ names-empty text w room =
 
 -- ---- the same numbers
 pub names-kept : {text : Bytes} {names : List Bytes} {w z : List ℕ} → Names text names w → length z ≡ length w
-    → ((k : ℕ) → nameBase ≤ k → k < dueBase → getD z k 0 ≡ getD w k 0) → Names text names z
+    → ((k : ℕ) → nameBase ≤ k → k < headEnd → getD z k 0 ≡ getD w k 0) → Names text names z
 names-kept {text} {names} {w} {z} s sized kept =
     names-of (omega (arith, s .room)) (s .few) (λ k l. row-kept text names w z k (kept (nameBase + k) (omega arith) (omega (arith, s .few))) (row-of s k l))
     (λ h l. subst (Link names h (length names)) (sym (ap (λ z. z % 8_192) (kept (headBase + h % 4_096) (omega arith) (omega arith)))) (s .heads h l))

@@ -9,7 +9,7 @@ use lib.ListN.{set}
 use borrow.Author.Tests.{le-leb, lt-leb, leb-true}
 use Rattle.spec_text.specs.Bytes.{Bytes, same, partOf}
 use Rattle.read_fields.specs.FieldsModel.{fieldAt, hashOf}
-use Rattle.work_rows.specs.Layout.{rowsMost, dueBase, offsetAt, sameAt}
+use Rattle.work_rows.specs.Layout.{rowsMost, headEnd, offsetAt, sameAt}
 use Rattle.read_names.specs.ChainsModel.{headAt, linkAt, follow, found, lookup, nameEntered, added, clearedFrom}
 use Rattle.read_names.proofs.Writes.{entered-new}
 
@@ -81,10 +81,10 @@ unfolding added
 add-row text w z i at len h r x e p q = q ∙ ap (nameEntered w i at h) (p ∙ ap (found text w h) e)
 
 -- ---- the heads cleared from i on
-pub clear-turn : (w : List ℕ) (i : ℕ) → i < dueBase → clearedFrom (dueBase - i) i w ≡ clearedFrom (dueBase - (i + 1)) (i + 1) (set w i 0)
+pub clear-turn : (w : List ℕ) (i : ℕ) → i < headEnd → clearedFrom (headEnd - i) i w ≡ clearedFrom (headEnd - (i + 1)) (i + 1) (set w i 0)
 unfolding clearedFrom
-clear-turn w i l = let e : dueBase - i ≡ suc (dueBase - (i + 1)) = omega arith in ap (λ n. clearedFrom n i w) e
+clear-turn w i l = let e : headEnd - i ≡ suc (headEnd - (i + 1)) = omega arith in ap (λ n. clearedFrom n i w) e
 
-pub clear-done : (w : List ℕ) (i : ℕ) → dueBase ≤ i → clearedFrom (dueBase - i) i w ≡ w
+pub clear-done : (w : List ℕ) (i : ℕ) → headEnd ≤ i → clearedFrom (headEnd - i) i w ≡ w
 unfolding clearedFrom
-clear-done w i l = let e : dueBase - i ≡ 0 = omega arith in ap (λ n. clearedFrom n i w) e
+clear-done w i l = let e : headEnd - i ≡ 0 = omega arith in ap (λ n. clearedFrom n i w) e

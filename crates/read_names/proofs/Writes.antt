@@ -10,7 +10,7 @@ use lib.ListN.{length, getD, set, length-set}
 use lib.Seq.{getD-set-same, getD-set-other}
 use borrow.Author.Tests.{eqb-true, eqb-false, lt-ltb, le-ltb}
 use Rattle.spec_text.specs.Bytes.{Bytes, partOf}
-use Rattle.work_rows.specs.Layout.{put, rowsMost, nameBase, headBase, dueBase, nameOf, offsetAt}
+use Rattle.work_rows.specs.Layout.{put, rowsMost, nameBase, headBase, headEnd, nameOf, offsetAt}
 use Rattle.read_names.specs.ChainsModel.{headAt, found, placed, nameEntered, added, clearedFrom, cleared}
 
 pub eq-or-ne : (a b : ℕ) → (a ≡ b) ⊎ (a ≡ b → ⊥)
@@ -49,7 +49,7 @@ added-has P text w i at len h first then = entered-has P w i at h (found text w 
 
 -- the places that are neither second numbers nor heads
 abbrev pub Outside : ℕ → Type 0
-Outside k = (k < nameBase) ⊎ (dueBase ≤ k)
+Outside k = (k < nameBase) ⊎ (headEnd ≤ k)
 
 not-second : (i k : ℕ) → i < rowsMost → Outside k → k ≡ nameBase + i → ⊥
 not-second i k l (inl m) e = omega arith
@@ -126,5 +126,5 @@ cleared-length w = from-length 4_096 headBase w
 pub cleared-head : (w : List ℕ) (h : ℕ) → 16_384 ≤ length w → headAt (cleared w) h ≡ 0
 cleared-head w h room = ap (λ z. z % 8_192) (from-here 4_096 headBase w (headBase + h % 4_096) (omega arith) (omega arith) (omega arith))
 
-pub cleared-other : (w : List ℕ) (k : ℕ) → (k < headBase) ⊎ (dueBase ≤ k) → getD (cleared w) k 0 ≡ getD w k 0
+pub cleared-other : (w : List ℕ) (k : ℕ) → (k < headBase) ⊎ (headEnd ≤ k) → getD (cleared w) k 0 ≡ getD w k 0
 cleared-other w k o = from-other 4_096 headBase w k (⊎-elim (λ l. inl l) (λ l. inr (omega arith)) o)

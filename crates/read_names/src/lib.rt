@@ -1,7 +1,7 @@
 // Numbers the names of rows: the number of a name is the earliest row that has it. New names with one hash are a chain, from a head
 // through links that fall, in the work buffer.
-use work_rows::DUE_BASE;
 use work_rows::HEAD_BASE;
+use work_rows::HEAD_END;
 use work_rows::NAME_BASE;
 use work_rows::OFFSETS;
 use work_rows::ROWS_MOST;
@@ -16,14 +16,14 @@ ghost use Rattle.read_names.specs.ChainsModel.{Names, headAt, linkAt, fo
 // How many hashes there are.
 const HASHES: usize = 4096;
 
-// Heads stand below this.
-const HEADS: usize = 8192;
+// A head is a row and one, or 0: below this.
+const HEAD_VALUES: usize = 8192;
 
 // The head of a hash's chain.
 fn head(work: &[u32], hash: usize) -> usize
     ensures { λ r. ⌜ (r ≡ headAt (now (work .entry)) hash) × (r < 4294967296) ⌝ }
 {
-    work_rows::get(work, HEAD_BASE + hash % HASHES) % HEADS
+    work_rows::get(work, HEAD_BASE + hash % HASHES) % HEAD_VALUES
 }
 
 // The row (and one) after row j in its chain, or 0.
@@ -102,7 +102,7 @@ pub fn clear(work: &mut [u32])
     ensures { λ _. ⌜ now (work .exit) ≡ cleared (now (work .entry)) ⌝ }
 {
     let mut i = HEAD_BASE;
-    while i < DUE_BASE {
+    while i < HEAD_END {
         work[i] = 0;
         i += 1;
     }

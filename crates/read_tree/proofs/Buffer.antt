@@ -12,12 +12,12 @@ use lib.Seq.{getD-set-same, getD-set-other, take-set-le}
 use borrow.Author.Tests.{ne-eqb, le-leb, lt-leb}
 use Rattle.spec_text.specs.Bytes.{Bytes}
 use Rattle.spec_text.proofs.Lists.{All}
-use Rattle.work_rows.specs.Layout.{put, nameBase, dueBase}
+use Rattle.work_rows.specs.Layout.{put, nameBase}
+use Rattle.read_agenda.specs.StackModel.{agendaBase, Stack, stack, runWord, closeWord, pushed, pushedClose, pushedBelow, lessened}
 use Rattle.read_names.proofs.Theorems.{other-names}
 use Rattle.work_rows.specs.Rows.{Row}
 use Rattle.read_tree.specs.Laid.{Holds, nameIn}
 use Rattle.read_agenda.specs.AgendaModel.{Entry, run, close, due, dueBelow}
-use Rattle.read_agenda.specs.StackModel.{Stack, stack, runWord, closeWord, pushed, pushedClose, pushedBelow, lessened}
 use Rattle.read_words.specs.ChildrenModel.{Few}
 use Rattle.read_words.specs.declared.Children.{Children}
 
@@ -59,15 +59,15 @@ word-small h (fits-close i l) = omega arith
 -- ---- the stack: each entry's number stands over those under it
 pub data Stacked (w : List ℕ) (rows : ℕ) : List Entry → Type 0 where
   bare : Stacked w rows []
-  over : {e : Entry} {under : List Entry} → getD w (dueBase + length under) 0 ≡ wordOf e → Fits rows (length under) e → Stacked w rows under
+  over : {e : Entry} {under : List Entry} → getD w (agendaBase + length under) 0 ≡ wordOf e → Fits rows (length under) e → Stacked w rows under
       → Stacked w rows (e ∷ under)
 
-pub stacked-kept : {w v : List ℕ} {rows more : ℕ} {agenda : List Entry} → ((k : ℕ) → k < length agenda → getD v (dueBase + k) 0 ≡ getD w (dueBase + k) 0)
+pub stacked-kept : {w v : List ℕ} {rows more : ℕ} {agenda : List Entry} → ((k : ℕ) → k < length agenda → getD v (agendaBase + k) 0 ≡ getD w (agendaBase + k) 0)
     → rows ≤ more → Stacked w rows agenda → Stacked v more agenda
 stacked-kept h l bare = bare
 stacked-kept h l (over {e} {under} is f s) = over (h (length under) (omega arith) ∙ is) (fits-more l f) (stacked-kept (λ k m. h k (omega arith)) l s)
 
-pub word-on : {w : List ℕ} {n : ℕ} {e : Entry} {under : List Entry} → Stacked w n (e ∷ under) → getD w (dueBase + length under) 0 ≡ wordOf e
+pub word-on : {w : List ℕ} {n : ℕ} {e : Entry} {under : List Entry} → Stacked w n (e ∷ under) → getD w (agendaBase + length under) 0 ≡ wordOf e
 word-on (over is f s) = is
 
 pub fits-on : {w : List ℕ} {n : ℕ} {e : Entry} {under : List Entry} → Stacked w n (e ∷ under) → Fits n (length under) e
@@ -99,7 +99,7 @@ pub rows-few : {text : Bytes} {rows : List Row} {w : List ℕ} → Holds text ro
 rows-few {rows} h = subst (λ n. n ≤ 4_096) (length-map rows nameIn) (h .names .few)
 
 -- a number of the agenda is written
-holds-set : {text : Bytes} {rows : List Row} {w : List ℕ} (i v : ℕ) → dueBase ≤ i → Holds text rows w → Holds text rows (set w i v)
+holds-set : {text : Bytes} {rows : List Row} {w : List ℕ} (i v : ℕ) → agendaBase ≤ i → Holds text rows w → Holds text rows (set w i v)
 holds-set {text} {rows} {w} i v l h =
     let few = rows-few h in
     record {
@@ -114,17 +114,17 @@ put-stores w i v l small = getD-set-same w i (v % 4_294_967_296) 0 l ∙ mod-eq-
 module _ {text : Bytes} {rows : List Row} where
   -- an entry is put on top
   put-held : {e : Entry} {under : List Entry} {x : Stack} (v : ℕ) → v ≡ wordOf e → Fits (length rows) (length under) e → Held text rows under x
-      → Held text rows (e ∷ under) (stack (put (x .work) (dueBase + x .top) v) (x .top + 1))
+      → Held text rows (e ∷ under) (stack (put (x .work) (agendaBase + x .top) v) (x .top + 1))
   put-held {e} {under} {x} v is f h =
       let w = x .work in
-      let i = dueBase + x .top in
+      let i = agendaBase + x .top in
       let small : v < 4_294_967_296 = omega (arith, word-small (rows-few (h .holds)) f) in
       let room : i < length w = omega (arith, fits-low f, h .holds .names .room, h .top) in
       record {
         top = omega (arith, h .top);
         entries =
-            over (ap (λ n. getD (put w i v) (dueBase + n) 0) (sym (h .top)) ∙ (put-stores w i v room small ∙ is)) f
-            (stacked-kept (λ k l. getD-set-other w i (dueBase + k) (v % 4_294_967_296) 0 (λ q. omega (arith, h .top))) (omega arith) (h .entries));
+            over (ap (λ n. getD (put w i v) (agendaBase + n) 0) (sym (h .top)) ∙ (put-stores w i v room small ∙ is)) f
+            (stacked-kept (λ k l. getD-set-other w i (agendaBase + k) (v % 4_294_967_296) 0 (λ q. omega (arith, h .top))) (omega arith) (h .entries));
         kinds = h .kinds;
         holds = holds-set i (v % 4_294_967_296) (omega arith) (h .holds);
       }
@@ -135,12 +135,12 @@ module _ {text : Bytes} {rows : List Row} where
 
   -- another entry is put in its place
   put-again : {e f : Entry} {under : List Entry} {w : List ℕ} {top : ℕ} (v : ℕ) → v ≡ wordOf f → Fits (length rows) (length under) f
-      → Held text rows (e ∷ under) (stack w top) → Held text rows (f ∷ under) (stack (put w (dueBase + top - 1) v) top)
+      → Held text rows (e ∷ under) (stack w top) → Held text rows (f ∷ under) (stack (put w (agendaBase + top - 1) v) top)
   put-again {f} {under} {w} {top} v is fits h =
-      let i : dueBase + (top - 1) ≡ dueBase + top - 1 = omega (arith, h .top) in
+      let i : agendaBase + (top - 1) ≡ agendaBase + top - 1 = omega (arith, h .top) in
       let j : top - 1 + 1 ≡ top = omega (arith, h .top) in
       subst (λ z. Held text rows (f ∷ under) (stack (put w z v) top)) i
-      (subst (λ z. Held text rows (f ∷ under) (stack (put w (dueBase + (top - 1)) v) z)) j (put-held v is fits (pop-held h)))
+      (subst (λ z. Held text rows (f ∷ under) (stack (put w (agendaBase + (top - 1)) v) z)) j (put-held v is fits (pop-held h)))
 
   -- ---- the machine's own steps
   pub pushed-held : (s n d : ℕ) {under : List Entry} {x : Stack} → s < 7 → n ≤ 16_384 → length under + 8 * d ≤ 514 → Held text rows under x

@@ -15,7 +15,8 @@ use Rattle.spec_text.specs.Tree.{Line}
 use Rattle.spec_text.specs.Lines.{Parsed}
 use Rattle.spec_text.proofs.Lists.{All, all-nil, all-cons}
 use Rattle.read_line.specs.LineModel.{numbersOf}
-use Rattle.work_rows.specs.Layout.{put, rowsMost, nameBase, dueBase, offsetAt, kindAt}
+use Rattle.work_rows.specs.Layout.{put, rowsMost, nameBase, offsetAt, kindAt}
+use Rattle.read_agenda.specs.StackModel.{agendaBase, stack}
 use Rattle.read_fields.specs.FieldsModel.{fieldAt, hashOf}
 use Rattle.read_names.specs.ChainsModel.{Names, placed, added}
 use Rattle.read_names.proofs.Theorems.{Outside, other-names, placed-names, placed-length, placed-offset, placed-rows, placed-outside, added-names, added-length, added-offset, added-rows, added-outside}
@@ -23,7 +24,6 @@ use Rattle.work_rows.specs.Rows.{Row, row}
 use Rattle.read_tree.specs.Laid.{Holds, numberOf, nameIn, startOf, offsetOf}
 use Rattle.read_agenda.specs.AgendaModel.{Entry, closeAt}
 use Rattle.read_tree.specs.MachineModel.{rowWritten, rowClosed}
-use Rattle.read_agenda.specs.StackModel.{stack}
 use Rattle.read_tree.proofs.Same.{Known}
 use Rattle.read_tree.proofs.Buffer.{Kind, Held, stacked-kept, rows-few, put-stores}
 
@@ -89,7 +89,7 @@ wrote-held {rows} {x} few kind h r =
     record {
       top = h .top;
       entries =
-          stacked-kept (λ k l. r .kept (dueBase + k) (λ e. omega arith) (inr (omega arith))) (omega (arith, length-more rows x))
+          stacked-kept (λ k l. r .kept (agendaBase + k) (λ e. omega arith) (inr (omega arith))) (omega (arith, length-more rows x))
           (h .entries);
       kinds = all-more (h .kinds) kind;
       holds = wrote-holds few (h .holds) r;
@@ -251,7 +251,7 @@ closed-held {rows} {w} i l h =
     record {
       top = h .top;
       entries =
-          stacked-kept (λ k m. getD-set-other w i (dueBase + k) _ 0 (λ e. omega (arith, rows-few (h .holds)))) (omega (arith, close-length i rows))
+          stacked-kept (λ k m. getD-set-other w i (agendaBase + k) _ 0 (λ e. omega (arith, rows-few (h .holds)))) (omega (arith, close-length i rows))
           (h .entries);
       kinds = close-kinds i (h .kinds);
       holds = closed-holds i l (h .kinds) (h .holds);

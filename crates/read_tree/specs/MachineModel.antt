@@ -9,14 +9,14 @@ use Rattle.spec_text.specs.Bytes.{Bytes}
 use Rattle.spec_text.specs.Reading.{Rest, mostLines, mostParams, deepest}
 use Rattle.read_line.specs.LineModel.{lineAt}
 use Rattle.read_line.specs.declared.Line.{Line}
-use Rattle.work_rows.specs.Layout.{put, dueBase, kindAt}
+use Rattle.work_rows.specs.Layout.{put, kindAt}
+use Rattle.read_agenda.specs.StackModel.{agendaBase, Stack, stack, pushed, pushedDue, lessened}
 use Rattle.read_names.specs.ChainsModel.{placed, added, cleared}
 use Rattle.read_words.specs.ChildrenModel.{childrenBy}
 use Rattle.read_tree.specs.declared.Due.{Due}
 use Rattle.read_tree.specs.declared.Progress.{Progress}
 use Rattle.read_tree.specs.declared.Read.{Read}
 use Rattle.read_tree.specs.declared.Read.the-variants as R
-use Rattle.read_agenda.specs.StackModel.{Stack, stack, pushed, pushedDue, lessened}
 
 -- ---- a line that is due, or its refusal: 3, 5, 6 or 7, in this order; line n, with d levels left
 unfoldable pub refusalOf : Bool → Line → ℕ → ℕ → ℕ → ℕ
@@ -63,7 +63,7 @@ unfoldable pub taken : Bytes → ℕ → Machine → Machine
 taken text e m = takenIf text e (e / 8 % 128) (dueAt text (m .progress .at) (e % 8) (m .progress .rows + 2) (e / 8 % 128)) m
 
 abbrev pub entryOf : Machine → ℕ
-entryOf m = getD (m .work) (dueBase + m .progress .top - 1) 0
+entryOf m = getD (m .work) (agendaBase + m .progress .top - 1) 0
 
 abbrev pub turnBy : Bytes → ℕ → Machine → Machine
 turnBy text e m =

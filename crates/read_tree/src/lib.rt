@@ -1,5 +1,6 @@
 // Reads a tree text into rows, or refuses it. An agenda in the work buffer says which lines are due, so nothing recurses: each turn
 // takes one line, writes its row, and puts the lines due below it on the agenda.
+use read_agenda::AGENDA_BASE;
 use read_agenda::CLOSE;
 use read_agenda::DEPTHS;
 use read_agenda::LEVELS;
@@ -7,8 +8,7 @@ use read_agenda::SORTS;
 use read_line::Line;
 use spec_text::refusal;
 use spec_text::sort;
-use work_rows::DUE_BASE;
-use work_rows::KINDS;
+use work_rows::LINE_KINDS;
 ghost use mathlib.Core.Path.{_≡_};
 ghost use Prim.Native.Nat.{_+_, _-_, _<_, _≤_};
 ghost use lib.ListN.{length};
@@ -110,11 +110,11 @@ fn close(work: &mut [u32], i: usize, rows: usize)
     ensures { λ _. ⌜ now (work .exit) ≡ rowClosed i rows (now (work .entry)) ⌝ }
 {
     let kind = work_rows::kind(work, i);
-    work_rows::put(work, i, kind + KINDS * minus(rows, i + 1))
+    work_rows::put(work, i, kind + LINE_KINDS * minus(rows, i + 1))
 }
 
 // Takes the next line, which is due by the entry e.
-fn take(text: &[u8], work: &mut [u32], s: Progress, e: usize) -> Progress
+fn take_line(text: &[u8], work: &mut [u32], s: Progress, e: usize) -> Progress
     requires { ⌜ Bounded (now text) s ⌝ }
     requires { ⌜ 0 < s .top ⌝ }
     ensures { λ r. ⌜ machine (now (work .exit)) r ≡ taken (now (text .entry)) e (machine (now (work .entry)) s) ⌝ }
@@ -132,7 +132,7 @@ fn take(text: &[u8], work: &mut [u32], s: Progress, e: usize) -> Progress
     }
     let l = x.line;
     write_row(text, work, s.rows, s.at, l);
-    let t = read_agenda::less(work, s.top, e);
+    let t = read_agenda::one_less(work, s.top, e);
     let c = read_words::children_of(
         l.kind,
         work_rows::wide(l.count0),
@@ -149,13 +149,13 @@ fn take(text: &[u8], work: &mut [u32], s: Progress, e: usize) -> Progress
 }
 
 // One turn: what is on top of the agenda.
-fn turn(text: &[u8], work: &mut [u32], s: Progress) -> Progress
+fn step(text: &[u8], work: &mut [u32], s: Progress) -> Progress
     requires { ⌜ Bounded (now text) s ⌝ }
     requires { ⌜ 0 < s .top ⌝ }
     ensures { λ r. ⌜ machine (now (work .exit)) r ≡ turnOf (now (text .entry)) (machine (now (work .entry)) s) ⌝ }
     ensures { λ r. ⌜ Bounded (now (text .entry)) r × (left (now (text .entry)) r < left (now (text .entry)) s) ⌝ }
 {
-    let e = work_rows::get(work, DUE_BASE + s.top - 1);
+    let e = work_rows::get(work, AGENDA_BASE + s.top - 1);
     if e % SORTS == CLOSE {
         close(work, e / LEVELS, s.rows);
         return Progress {
@@ -165,18 +165,18 @@ fn turn(text: &[u8], work: &mut [u32], s: Progress) -> Progress
             refusal: 0,
         };
     }
-    take(text, work, s, e)
+    take_line(text, work, s, e)
 }
 
 // Turn after turn, until nothing is due.
-fn turns(text: &[u8], work: &mut [u32], first: Progress) -> Progress
+fn run(text: &[u8], work: &mut [u32], first: Progress) -> Progress
     requires { ⌜ Bounded (now text) first ⌝ }
     ensures { λ r. ⌜ ((x : Machine) → Turns (now (text .entry)) (machine (now (work .entry)) first) x → machine (now (work .exit)) r ≡ x) ⌝ }
     ensures { λ r. ⌜ Bounded (now (text .entry)) r ⌝ }
 {
     let mut s = first;
     while 0 < s.top {
-        s = turn(text, work, s);
+        s = step(text, work, s);
     }
     s
 }
@@ -214,7 +214,7 @@ fn rest(text: &[u8], work: &mut [u32], globals: usize, stmts: usize, at: usize) 
     read_names::clear(work);
     let t = read_agenda::push(work, 0, sort::STMT, stmts, DEEPEST);
     let top = read_agenda::push(work, t, sort::GLOBAL, globals, DEEPEST);
-    let s = turns(
+    let s = run(
         text,
         work,
         Progress {

@@ -8,8 +8,7 @@ use lib.Dec.{eqb, leb}
 use lib.ListN.{length, length-append}
 use borrow.Author.Tests.{eq-eqb, ne-eqb, le-leb, lt-leb}
 use Rattle.spec_faults.specs.Faults.{capture}
-use Rattle.work_rows.specs.Layout.{kindAt}
-use Rattle.work_marks.specs.MarksModel.{linesBelow, afterRow}
+use Rattle.work_rows.specs.Layout.{kindAt, linesBelow, afterRow}
 use Rattle.report_order.specs.declared.Around.{Around}
 use Rattle.report_order.specs.OrderModel.{entry, slotIn, captured, captures, called, itself, newLambda, newClass, around, placedAt, entriesFrom, stored}
 use Rattle.report_order.proofs.Stored.{Same, same-after, captures-same, called-same, entries-same, Left, left-all, left-more, left-none}

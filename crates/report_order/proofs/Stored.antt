@@ -10,20 +10,20 @@ use lib.ListN.{length, getD, length-append}
 use lib.Seq.{getD-set-other}
 use borrow.Author.Tests.{ltb-true}
 use Rattle.spec_faults.specs.Faults.{capture}
-use Rattle.work_rows.specs.Layout.{put, rowsMost, dueBase}
+use Rattle.work_rows.specs.Layout.{put, rowsMost}
+use Rattle.report_order.specs.OrderModel.{entryBase, entry, slotIn, captured, captures, called, itself, around, placedAt, entriesFrom, stored}
 use Rattle.work_marks.specs.MarksModel.{slotAt}
 use Rattle.report_order.specs.declared.Around.{Around}
-use Rattle.report_order.specs.OrderModel.{entry, slotIn, captured, captures, called, itself, around, placedAt, entriesFrom, stored}
 
 -- ---- the rows and the slots stay
 abbrev pub Same : List ℕ → List ℕ → Type 0
 Same w v = (i : ℕ) → i < 12_288 → getD v i 0 ≡ getD w i 0
 
 -- nothing before the first entry changes
-stored-before : (es : List ℕ) (j : ℕ) (w : List ℕ) (i : ℕ) → i < dueBase + j → getD (stored es j w) i 0 ≡ getD w i 0
+stored-before : (es : List ℕ) (j : ℕ) (w : List ℕ) (i : ℕ) → i < entryBase + j → getD (stored es j w) i 0 ≡ getD w i 0
 unfolding stored
 stored-before [] j w i l = refl
-stored-before (e ∷ es) j w i l = stored-before es (j + 1) (put w (dueBase + j) e) i (omega arith) ∙ getD-set-other w (dueBase + j) i _ 0 (λ q. omega arith)
+stored-before (e ∷ es) j w i l = stored-before es (j + 1) (put w (entryBase + j) e) i (omega arith) ∙ getD-set-other w (entryBase + j) i _ 0 (λ q. omega arith)
 
 pub same-after : (es : List ℕ) (j : ℕ) (w : List ℕ) {z : List ℕ} → z ≡ stored es j w → Same w z
 same-after es j w e = subst (Same w) (sym e) (λ i l. stored-before es j w i (omega arith))
@@ -73,8 +73,8 @@ stored-append : (a b : List ℕ) (j : ℕ) (w : List ℕ) → stored (a ++ b) j 
 unfolding stored
 stored-append [] b j w = ap (λ k. stored b k w) (let e : j ≡ j + 0 = omega arith in e)
 stored-append (e ∷ a) b j w =
-    stored-append a b (j + 1) (put w (dueBase + j) e)
-    ∙ ap (λ k. stored b k (stored a (j + 1) (put w (dueBase + j) e))) (let q : j + 1 + length a ≡ j + suc (length a) = omega arith in q)
+    stored-append a b (j + 1) (put w (entryBase + j) e)
+    ∙ ap (λ k. stored b k (stored a (j + 1) (put w (entryBase + j) e))) (let q : j + 1 + length a ≡ j + suc (length a) = omega arith in q)
 
 -- what is left to write from the c-th on gives the same as all of it from the first on
 pub record Left (rest : List ℕ) (c : ℕ) (w : List ℕ) (all : List ℕ) (from : ℕ) (v : List ℕ) : Type 0 where

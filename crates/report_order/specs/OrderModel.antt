@@ -6,10 +6,14 @@ use mathlib.Core.List.{List, [], _∷_, _++_}
 use lib.Dec.{eqb, leb, ltb}
 use lib.ListN.{getD}
 use Rattle.spec_faults.specs.Faults.{capture}
-use Rattle.work_rows.specs.Layout.{put, rowsMost, dueBase, kindAt}
-use Rattle.work_marks.specs.MarksModel.{linesBelow, afterRow, slotAt}
+use Rattle.work_rows.specs.Layout.{put, rowsMost, kindAt, linesBelow, afterRow}
+use Rattle.work_marks.specs.MarksModel.{slotAt}
 use Rattle.report_order.specs.declared.Around.{Around}
 use Rattle.report_order.specs.declared.Entry.{Entry}
+
+-- where the entries stand
+abbrev pub entryBase : ℕ
+entryBase = 12_288
 
 abbrev pub entry : ℕ → ℕ → ℕ → ℕ
 entry kind of row = 67_108_864 * kind + 8_192 * of + row
@@ -73,9 +77,9 @@ entries w first rows = entriesFrom w nowhere (rows - first) first
 -- ---- they are written where the stamps were, from the j-th on
 unfoldable pub stored : List ℕ → ℕ → List ℕ → List ℕ
 stored [] j w = w
-stored (e ∷ es) j w = stored es (j + 1) (put w (dueBase + j) e)
+stored (e ∷ es) j w = stored es (j + 1) (put w (entryBase + j) e)
 
 -- the j-th
 abbrev pub entryAt : List ℕ → ℕ → Entry
 entryAt w j =
-    record { kind = getD w (dueBase + j) 0 / 67_108_864; of = getD w (dueBase + j) 0 / 8_192 % 8_192; row = getD w (dueBase + j) 0 % 8_192 }
+    record { kind = getD w (entryBase + j) 0 / 67_108_864; of = getD w (entryBase + j) 0 / 8_192 % 8_192; row = getD w (entryBase + j) 0 % 8_192 }

@@ -1,7 +1,6 @@
 // Lists the faults in the report's order, from the slots: at each row those that have it as their place.
 use spec_faults::fault_kind;
 use spec_text::line_kind;
-use work_rows::DUE_BASE;
 use work_rows::ROWS_MOST;
 ghost use mathlib.Core.Path.{_≡_};
 ghost use mathlib.Core.Bool.{_||_};
@@ -12,10 +11,13 @@ ghost use lib.ListN.{length};
 ghost use Rattle.spec_faults.specs.Faults.{capture};
 ghost use Rattle.report_order.specs.OrderModel.{entry, slotIn, captured, captures, called, itself, around, placedAt, entries, stored, entryAt};
 
-// An entry is its kind, the row whose span it shows, and the row whose name it shows.
-const PLACES: usize = 8192;
+// Where the entries stand.
+const ENTRY_BASE: usize = 12288;
 
-const KINDS: usize = 67108864;
+// An entry is its kind, the row whose span it shows, and the row whose name it shows.
+const ENTRY_ROWS: usize = 8192;
+
+const ENTRY_KINDS: usize = 67108864;
 
 pub struct Entry {
     pub kind: usize,
@@ -65,7 +67,11 @@ fn add(work: &mut [u32], count: usize, kind: usize, of: usize, row: usize) -> us
     requires { ⌜ (count ≤ 268435456) × (kind < 64) × (of ≤ 16384) × (row ≤ 16384) ⌝ }
     ensures { λ r. ⌜ (now (work .exit) ≡ stored (entry kind of row ∷ []) count (now (work .entry))) × (r ≡ count + 1) ⌝ }
 {
-    work_rows::put(work, DUE_BASE + count, KINDS * kind + PLACES * of + row);
+    work_rows::put(
+        work,
+        ENTRY_BASE + count,
+        ENTRY_KINDS * kind + ENTRY_ROWS * of + row,
+    );
     count + 1
 }
 
@@ -131,7 +137,7 @@ fn next_around(work: &[u32], x: Around, p: usize) -> Around
     if kind == line_kind::LAMBDA {
         if x.lambda <= p {
             return Around {
-                lambda: work_marks::after_row(work, p),
+                lambda: work_rows::after_row(work, p),
                 class: x.class,
                 end: x.end,
             };
@@ -143,7 +149,7 @@ fn next_around(work: &[u32], x: Around, p: usize) -> Around
             return Around {
                 lambda: x.lambda,
                 class: p,
-                end: work_marks::after_row(work, p),
+                end: work_rows::after_row(work, p),
             };
         }
         return x;
@@ -160,7 +166,7 @@ fn list_row(work: &mut [u32], x: Around, class: usize, p: usize, count: usize) -
     let c = list_itself(work, class, p, count);
     if kind == line_kind::LAMBDA {
         if x.lambda <= p {
-            return list_captures(work, p, work_marks::after_row(work, p), c);
+            return list_captures(work, p, work_rows::after_row(work, p), c);
         }
         return c;
     }
@@ -171,7 +177,7 @@ fn list_row(work: &mut [u32], x: Around, class: usize, p: usize, count: usize) -
 }
 
 // Lists the faults of the rows from `first` up to `rows`, and answers how many there are.
-pub fn list(work: &mut [u32], first: usize, rows: usize) -> usize
+pub fn list_faults(work: &mut [u32], first: usize, rows: usize) -> usize
     requires { ⌜ rows ≤ 4096 ⌝ }
     ensures { λ r. ⌜ (now (work .exit) ≡ stored (entries (now (work .entry)) first rows) 0 (now (work .entry))) × (r ≡ length (entries (now (work .entry)) first rows)) ⌝ }
 {
@@ -196,10 +202,10 @@ pub fn entry_at(work: &[u32], j: usize) -> Entry
     requires { ⌜ j < 4294967296 ⌝ }
     ensures { λ r. ⌜ r ≡ entryAt (now (work .entry)) j ⌝ }
 {
-    let e = work_rows::get(work, DUE_BASE + j);
+    let e = work_rows::get(work, ENTRY_BASE + j);
     Entry {
-        kind: e / KINDS,
-        of: e / PLACES % PLACES,
-        row: e % PLACES,
+        kind: e / ENTRY_KINDS,
+        of: e / ENTRY_ROWS % ENTRY_ROWS,
+        row: e % ENTRY_ROWS,
     }
 }

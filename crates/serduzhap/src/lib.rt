@@ -59,7 +59,7 @@ pub fn check(text: &[u8], work: &mut [u32]) -> CheckResult
 }
 
 // Writes the records of so many faults.
-fn write(text: &[u8], work: &[u32], out: &mut [u32], count: usize)
+fn write_records(text: &[u8], work: &[u32], out: &mut [u32], count: usize)
     requires { ⌜ (7 * count ≤ length (now out)) × (count < 4294967296) ⌝ }
     ensures { λ _. ⌜ now (out .exit) ≡ over (recordsOf (now (text .entry)) (now (work .entry)) 0 count) (now (out .entry)) ⌝ }
 {
@@ -82,7 +82,7 @@ pub fn report(text: &[u8], work: &mut [u32], out: &mut [u32]) -> ReportResult
                     line: count,
                 };
             }
-            write(text, work, out, count);
+            write_records(text, work, out, count);
             ReportResult::Written { count: count }
         }
         Answer::Refused { number, line } => ReportResult::Refused {

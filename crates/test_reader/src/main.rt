@@ -17,7 +17,7 @@ fn sum_of(work: &[u32], lines: usize) -> usize {
     let end = test_frames::least(lines, 4096);
     while i < end {
         sum = test_frames::summed(sum, work_rows::kind(work, i));
-        sum = test_frames::summed(sum, work_rows::below(work, i));
+        sum = test_frames::summed(sum, work_rows::lines_below(work, i));
         sum = test_frames::summed(sum, work_rows::offset(work, i));
         sum = test_frames::summed(sum, work_rows::number(work, i));
         i += 1;
@@ -31,7 +31,7 @@ fn show(work: &[u32], lines: usize) {
     let end = test_frames::least(lines, 4096);
     while i < end {
         test_frames::put(work_rows::kind(work, i), b"\t");
-        test_frames::put(work_rows::below(work, i), b"\t");
+        test_frames::put(work_rows::lines_below(work, i), b"\t");
         test_frames::put(work_rows::offset(work, i), b"\t");
         test_frames::put(work_rows::number(work, i), b"\n");
         i += 1;

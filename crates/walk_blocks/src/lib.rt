@@ -14,7 +14,7 @@ fn enter_one(text: &[u8], work: &mut [u32], s: ScopeStack, name: &[u8])
     let a = read_names::row_of(text, work, name);
     s.define(work, a);
     if s.owns() {
-        walk_own_names::note(work, s.block, a, s.block + 1);
+        walk_own_names::note_name(work, s.block, a, s.block + 1);
     }
 }
 
@@ -33,22 +33,22 @@ fn enter(text: &[u8], work: &mut [u32], s: ScopeStack, i: usize)
 }
 
 // Into the block of row i, up to the row stop: binds its parameters, and notes a def's own names.
-pub fn open(text: &[u8], work: &mut [u32], s: ScopeStack, i: usize, stop: usize)
+pub fn enter_block(text: &[u8], work: &mut [u32], s: ScopeStack, i: usize, stop: usize)
     requires { ⌜ (i ≤ 4096) × (s .block < 4294967295) × (stop ≤ 16384) ⌝ }
     ensures { λ _. ⌜ now (work .exit) ≡ opened (now (text .entry)) s i stop (now (work .entry)) ⌝ }
 {
     enter(text, work, s, i);
     if s.owns() {
-        walk_own_names::note_rows(work, s.block, i + 1, stop);
+        walk_own_names::collect_locals(work, s.block, i + 1, stop);
     }
 }
 
 // Back in a block: notes a def's own names again, as a def in it has noted others.
-pub fn reopen(text: &[u8], work: &mut [u32], s: ScopeStack)
+pub fn reenter_block(text: &[u8], work: &mut [u32], s: ScopeStack)
     requires { ⌜ (s .block ≤ 4096) × (s .end ≤ 16384) ⌝ }
     ensures { λ _. ⌜ now (work .exit) ≡ reopened (now (text .entry)) s (now (work .entry)) ⌝ }
 {
     if s.home == HOME_DEF {
-        open(text, work, s, s.block, s.end);
+        enter_block(text, work, s, s.block, s.end);
     }
 }

@@ -60,7 +60,7 @@ fn define_globals(work: &mut [u32], s: ScopeStack, globals: usize)
 }
 
 // Before the first statement of so many rows, of which so many are `global` lines.
-pub fn begin(text: &[u8], work: &mut [u32], s: ScopeStack, globals: usize, rows: usize)
+pub fn bind_given(text: &[u8], work: &mut [u32], s: ScopeStack, globals: usize, rows: usize)
     requires { ⌜ (globals ≤ 4096) × (rows ≤ 4096) ⌝ }
     ensures { λ _. ⌜ now (work .exit) ≡ begun (now (text .entry)) s globals rows (now (work .entry)) ⌝ }
 {

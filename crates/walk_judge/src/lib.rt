@@ -52,7 +52,7 @@ fn fault(work: &mut [u32], s: ScopeStack, name: usize, i: usize, kind: usize)
 }
 
 // Judges the read at row i, of a name.
-pub fn read(work: &mut [u32], s: ScopeStack, called: bool, name: usize, i: usize)
+pub fn judge_read(work: &mut [u32], s: ScopeStack, called: bool, name: usize, i: usize)
     requires { ⌜ (i < 4294967296) × (name < 4294967296) × (s .block < 4294967296) ⌝ }
     ensures { λ _. ⌜ now (work .exit) ≡ readOf s called name i (now (work .entry)) ⌝ }
 {

@@ -8,9 +8,9 @@ use mathlib.Core.List.{List}
 use mathlib.Core.Logic.{_⊎_, inl, inr}
 use lib.Dec.{eqb, leb}
 use borrow.Author.Tests.{lt-ltb, le-ltb, eq-eqb, ne-eqb, le-leb, lt-leb}
-use Rattle.work_rows.specs.Layout.{rowsMost, kindAt, numberAt}
-use Rattle.work_marks.specs.MarksModel.{afterRow, stampAt, putStamp}
-use Rattle.work_marks.proofs.Loops.{rows-turn}
+use Rattle.work_rows.specs.Layout.{rowsMost, kindAt, numberAt, afterRow}
+use Rattle.work_marks.specs.MarksModel.{stampAt, putStamp}
+use Rattle.work_rows.proofs.Loops.{rows-turn}
 use Rattle.walk_own_names.specs.OwnNamesModel.{never, noted, rowNoted, nextNoted, allNoted}
 
 -- ---- a name is stamped

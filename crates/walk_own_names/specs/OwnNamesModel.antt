@@ -4,9 +4,9 @@ use Prim.Native.Nat.{ℕ, _+_, _*_, _/_, _%_}
 use mathlib.Core.Bool.{cond, _&&_, _||_}
 use mathlib.Core.List.{List}
 use lib.Dec.{eqb, leb, ltb}
-use Rattle.work_rows.specs.Layout.{rowsMost, kindAt, numberAt}
-use Rattle.work_marks.specs.MarksModel.{afterRow, stampAt, putStamp}
-use Rattle.work_marks.specs.LoopsModel.{rowsTo}
+use Rattle.work_rows.specs.Layout.{rowsMost, kindAt, numberAt, afterRow}
+use Rattle.work_marks.specs.MarksModel.{stampAt, putStamp}
+use Rattle.work_rows.specs.LoopsModel.{rowsTo}
 
 -- a row that no read is at or after: bound, and never assigned
 abbrev pub never : ℕ

@@ -10,7 +10,7 @@ ghost use Rattle.walk_own_names.specs.OwnNamesModel.{noted, rowNoted, ne
 const NEVER: usize = 8191;
 
 // The def at row b has the name of its own, assigned from a row on.
-pub fn note(work: &mut [u32], b: usize, name: usize, from: usize)
+pub fn note_name(work: &mut [u32], b: usize, name: usize, from: usize)
     requires { ⌜ b < 4294967296 ⌝ }
     ensures { λ _. ⌜ now (work .exit) ≡ noted b name from (now (work .entry)) ⌝ }
 {
@@ -31,15 +31,15 @@ fn note_row(work: &mut [u32], b: usize, i: usize)
     ensures { λ _. ⌜ now (work .exit) ≡ rowNoted b i (now (work .entry)) ⌝ }
 {
     match work_rows::kind(work, i) {
-        line_kind::DEF => note(work, b, work_rows::number(work, i), NEVER),
-        line_kind::CLASS => note(work, b, work_rows::number(work, i), NEVER),
-        line_kind::FOR => note(
+        line_kind::DEF => note_name(work, b, work_rows::number(work, i), NEVER),
+        line_kind::CLASS => note_name(work, b, work_rows::number(work, i), NEVER),
+        line_kind::FOR => note_name(
             work,
             b,
             work_rows::number(work, i),
-            work_marks::after_row(work, i + 1),
+            work_rows::after_row(work, i + 1),
         ),
-        line_kind::VAR => note(work, b, work_rows::number(work, i), i + 1),
+        line_kind::VAR => note_name(work, b, work_rows::number(work, i), i + 1),
         _ => {}
     }
 }
@@ -51,16 +51,16 @@ fn next_row(work: &[u32], i: usize) -> usize
 {
     let kind = work_rows::kind(work, i);
     if line_kind::ASSIGN <= kind && kind <= line_kind::FOR {
-        return work_marks::after_row(work, i + 1);
+        return work_rows::after_row(work, i + 1);
     }
     if kind == line_kind::TUPLE {
         return i + 1;
     }
-    work_marks::after_row(work, i)
+    work_rows::after_row(work, i)
 }
 
 // Notes what the rows bind in the block of the def at row b.
-pub fn note_rows(work: &mut [u32], b: usize, first: usize, stop: usize)
+pub fn collect_locals(work: &mut [u32], b: usize, first: usize, stop: usize)
     requires { ⌜ (b < 4294967296) × (stop ≤ 16384) ⌝ }
     ensures { λ _. ⌜ now (work .exit) ≡ allNoted b first stop (now (work .entry)) ⌝ }
 {

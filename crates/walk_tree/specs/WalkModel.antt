@@ -6,9 +6,9 @@ use mathlib.Core.List.{List}
 use lib.Dec.{eqb, leb, ltb}
 use Rattle.spec_text.specs.Bytes.{Bytes}
 use Rattle.spec_faults.specs.Faults.{lacksSelf}
-use Rattle.work_rows.specs.Layout.{rowsMost, kindAt, numberAt}
-use Rattle.work_marks.specs.MarksModel.{afterRow, putSlot}
-use Rattle.work_marks.specs.LoopsModel.{rowsTo}
+use Rattle.work_rows.specs.Layout.{rowsMost, kindAt, numberAt, afterRow}
+use Rattle.work_marks.specs.MarksModel.{putSlot}
+use Rattle.work_rows.specs.LoopsModel.{rowsTo}
 use Rattle.walk_scopes.specs.ScopesModel.{aDef, aMethod, module′, atModule, pushed, pushedLambda, defined}
 use Rattle.walk_scopes.specs.declared.ScopeStack.{ScopeStack}
 use Rattle.read_row.specs.RowModel.{paramsOf}

@@ -10,7 +10,7 @@ use work_rows::ROWS_MOST;
 ghost use mathlib.Core.Path.{_≡_};
 ghost use mathlib.Core.Bool.{false};
 ghost use Prim.Native.Nat.{_<_, _≤_};
-ghost use Rattle.work_marks.specs.LoopsModel.{rowsTo};
+ghost use Rattle.work_rows.specs.LoopsModel.{rowsTo};
 ghost use Rattle.walk_tree.specs.WalkModel.{nextTarget, targetAt, walkExpr, walkStmt, walkExprs, walkStmts, methodAt, blockAt, walkLine, walked};
 
 // The row of the next target.
@@ -21,7 +21,7 @@ fn next_target(work: &[u32], i: usize) -> usize
     if work_rows::kind(work, i) == line_kind::TUPLE {
         return i + 1;
     }
-    work_marks::after_row(work, i)
+    work_rows::after_row(work, i)
 }
 
 // A row in target position.
@@ -32,8 +32,8 @@ fn walk_target(text: &[u8], work: &mut [u32], left: usize, s: ScopeStack, i: usi
     match work_rows::kind(work, i) {
         line_kind::VAR => s.define(work, work_rows::number(work, i)),
         line_kind::TUPLE => {}, // its children are targets
-        line_kind::INDEX => walk_exprs(text, work, left, s, i + 1, work_marks::after_row(work, i)),
-        line_kind::GET => walk_exprs(text, work, left, s, i + 1, work_marks::after_row(work, i)),
+        line_kind::INDEX => walk_exprs(text, work, left, s, i + 1, work_rows::after_row(work, i)),
+        line_kind::GET => walk_exprs(text, work, left, s, i + 1, work_rows::after_row(work, i)),
         _ => work_marks::put_slot(work, i, fault_kind::INVALID_TARGET),
     }
 }
@@ -69,17 +69,17 @@ fn walk_expr(text: &[u8], work: &mut [u32], left: usize, called: bool, s: ScopeS
     if ROWS_MOST <= i {
         return;
     }
-    let stop = work_marks::after_row(work, i);
+    let stop = work_rows::after_row(work, i);
     match work_rows::kind(work, i) {
-        line_kind::VAR => walk_judge::read(work, s, called, work_rows::number(work, i), i),
+        line_kind::VAR => walk_judge::judge_read(work, s, called, work_rows::number(work, i), i),
         line_kind::CALL => {
-            let rest = work_marks::after_row(work, i + 1);
+            let rest = work_rows::after_row(work, i + 1);
             walk_expr(text, work, left - 1, true, s, i + 1);
             walk_exprs(text, work, left - 1, s, rest, stop)
         }
         line_kind::LAMBDA => {
             let inner = s.push_lambda(stop);
-            walk_blocks::open(text, work, inner, i, stop);
+            walk_blocks::enter_block(text, work, inner, i, stop);
             walk_stmts(text, work, left - 1, inner, i + 1, stop)
         }
         _ => walk_exprs(text, work, left - 1, s, i + 1, stop),
@@ -93,7 +93,7 @@ fn walk_exprs(text: &[u8], work: &mut [u32], left: usize, s: ScopeStack, first: 
 {
     let mut at = first;
     while at < stop {
-        let next = work_marks::after_row(work, at);
+        let next = work_rows::after_row(work, at);
         walk_expr(text, work, left, false, s, at);
         at = next;
     }
@@ -110,22 +110,22 @@ fn walk_stmt(text: &[u8], work: &mut [u32], left: usize, s: ScopeStack, i: usize
     if ROWS_MOST <= i {
         return;
     }
-    let stop = work_marks::after_row(work, i);
+    let stop = work_rows::after_row(work, i);
     match work_rows::kind(work, i) {
         line_kind::DEF => {
             s.define(work, work_rows::number(work, i));
             let inner = s.push(HOME_DEF, i, stop);
             walk_block(text, work, left - 1, inner, i);
-            walk_blocks::reopen(text, work, inner.pop(s))
+            walk_blocks::reenter_block(text, work, inner.pop(s))
         }
         line_kind::ASSIGN => {
-            let target = work_marks::after_row(work, i + 1);
+            let target = work_rows::after_row(work, i + 1);
             walk_expr(text, work, left - 1, false, s, i + 1);
             walk_targets(text, work, left - 1, s, target, stop)
         }
         line_kind::FOR => {
             let name = work_rows::number(work, i);
-            let body = work_marks::after_row(work, i + 1);
+            let body = work_rows::after_row(work, i + 1);
             walk_expr(text, work, left - 1, false, s, i + 1);
             s.define(work, name);
             walk_stmts(text, work, left - 1, s, body, stop)
@@ -160,7 +160,7 @@ fn walk_block(text: &[u8], work: &mut [u32], left: usize, s: ScopeStack, i: usiz
     requires { ⌜ (i ≤ 4096) × (s .block ≤ 4096) × (s .end ≤ 16384) ⌝ }
     ensures { λ _. ⌜ now (work .exit) ≡ blockAt (walkLine left (now (text .entry))) (now (text .entry)) s i (now (work .entry)) ⌝ }
 {
-    walk_blocks::open(text, work, s, i, s.end);
+    walk_blocks::enter_block(text, work, s, i, s.end);
     walk_stmts(text, work, left, s, i + 1, s.end)
 }
 
@@ -171,7 +171,7 @@ fn walk_stmts(text: &[u8], work: &mut [u32], left: usize, s: ScopeStack, first: 
 {
     let mut at = first;
     while at < stop {
-        let next = work_marks::after_row(work, at);
+        let next = work_rows::after_row(work, at);
         if work_rows::kind(work, at) < line_kind::LIT {
             walk_stmt(text, work, left, s, at);
         } else {
@@ -187,6 +187,6 @@ pub fn walk(text: &[u8], work: &mut [u32], globals: usize, rows: usize)
     ensures { λ _. ⌜ now (work .exit) ≡ walked (now (text .entry)) globals rows (now (work .entry)) ⌝ }
 {
     let s = ScopeStack::new(rows);
-    walk_given::begin(text, work, s, globals, rows);
+    walk_given::bind_given(text, work, s, globals, rows);
     walk_stmts(text, work, rows, s, globals, rows)
 }

@@ -10,8 +10,8 @@ use lib.Dec.{eqb, ltb}
 use lib.ListN.{length, getD, length-set}
 use lib.Seq.{getD-set-same, getD-set-other, set-out}
 use borrow.Author.Tests.{eqb-true, eqb-false, ltb-true, ltb-false}
-use Rattle.work_rows.specs.Layout.{put, rowsMost, headBase, dueBase, kindAt, numberAt}
-use Rattle.work_marks.specs.MarksModel.{lambdaEnd, blockEnd, slotAt, stampAt, putLambdaEnd, putBlockEnd, raisedLambda, raisedBlock, putSlot, putStamp}
+use Rattle.work_rows.specs.Layout.{put, rowsMost, headBase, kindAt, numberAt}
+use Rattle.work_marks.specs.MarksModel.{stampBase, lambdaEnd, blockEnd, slotAt, stampAt, putLambdaEnd, putBlockEnd, raisedLambda, raisedBlock, putSlot, putStamp}
 use Rattle.work_marks.proofs.Raised.{raise-has}
 
 -- ---- a number is written
@@ -104,7 +104,7 @@ module _ (w : List ℕ) (a e : ℕ) where
   raised-lambda-slot i = ap (λ x. x / 67_108_864) (raised-lambda-apart (headBase + i) (λ l p. omega arith))
 
   pub raised-lambda-stamp : (b : ℕ) → stampAt (raisedLambda w a e) b ≡ stampAt w b
-  raised-lambda-stamp b = raised-lambda-apart (dueBase + b) (λ l p. omega arith)
+  raised-lambda-stamp b = raised-lambda-apart (stampBase + b) (λ l p. omega arith)
 
   pub kept-raised-lambda : Kept w (raisedLambda w a e)
   kept-raised-lambda =
@@ -141,7 +141,7 @@ module _ (w : List ℕ) (a e : ℕ) where
       (λ _ _. put-keeps (λ x. x / 67_108_864) w (headBase + a) _ (omega (arith, h (headBase + a))) (headBase + i))
 
   pub raised-block-stamp : (b : ℕ) → stampAt (raisedBlock w a e) b ≡ stampAt w b
-  raised-block-stamp b = raised-block-apart (dueBase + b) (λ l p. omega arith)
+  raised-block-stamp b = raised-block-apart (stampBase + b) (λ l p. omega arith)
 
   pub kept-raised-block : Kept w (raisedBlock w a e)
   kept-raised-block =
@@ -172,7 +172,7 @@ module _ (w : List ℕ) (i k : ℕ) where
   slot-block b = put-keeps (λ x. x / 8_192 % 8_192) w (headBase + i) _ (omega arith) (headBase + b)
 
   pub slot-stamp : i < 4_096 → (b : ℕ) → stampAt (putSlot w i k) b ≡ stampAt w b
-  slot-stamp l b = slot-apart (dueBase + b) (λ p. omega arith)
+  slot-stamp l b = slot-apart (stampBase + b) (λ p. omega arith)
 
   pub kept-slot : Kept w (putSlot w i k)
   unfolding putSlot
@@ -185,14 +185,14 @@ module _ (w : List ℕ) (i k : ℕ) where
 -- ---- a stamp is written
 module _ (w : List ℕ) (a v : ℕ) where
   pub stamp-same : 16_384 ≤ length w → a < 4_096 → v < 4_294_967_296 → stampAt (putStamp w a v) a ≡ v
-  stamp-same room l s = getD-set-same w (dueBase + a) _ 0 (omega arith) ∙ omega arith
+  stamp-same room l s = getD-set-same w (stampBase + a) _ 0 (omega arith) ∙ omega arith
 
   pub stamp-other : (b : ℕ) → (b ≡ a → ⊥) → stampAt (putStamp w a v) b ≡ stampAt w b
-  stamp-other b d = put-other w (dueBase + a) v (dueBase + b) (λ p. d (omega arith))
+  stamp-other b d = put-other w (stampBase + a) v (stampBase + b) (λ p. d (omega arith))
 
   -- all numbers before the stamps
   pub stamp-apart : (j : ℕ) → j < 12_288 → getD (putStamp w a v) j 0 ≡ getD w j 0
-  stamp-apart j l = put-other w (dueBase + a) v j (λ p. omega arith)
+  stamp-apart j l = put-other w (stampBase + a) v j (λ p. omega arith)
 
   pub stamp-lambda : (b : ℕ) → b < 4_096 → lambdaEnd (putStamp w a v) b ≡ lambdaEnd w b
   stamp-lambda b l = ap (λ x. x / 131_072) (stamp-apart b (omega arith))
@@ -204,7 +204,7 @@ module _ (w : List ℕ) (a v : ℕ) where
   stamp-slot i l = ap (λ x. x / 67_108_864) (stamp-apart (headBase + i) (omega arith))
 
   pub kept-stamp : Kept w (putStamp w a v)
-  kept-stamp = kept-put w (dueBase + a) v (λ m. absurd (omega arith)) (λ m. absurd (omega arith)) (λ m. absurd (omega arith))
+  kept-stamp = kept-put w (stampBase + a) v (λ m. absurd (omega arith)) (λ m. absurd (omega arith)) (λ m. absurd (omega arith))
 
   pub words-stamp : Words w → Words (putStamp w a v)
-  words-stamp h = words-put w (dueBase + a) v h
+  words-stamp h = words-put w (stampBase + a) v h

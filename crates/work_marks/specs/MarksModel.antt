@@ -8,15 +8,7 @@ use mathlib.Core.Bool.{cond}
 use mathlib.Core.List.{List}
 use lib.Dec.{ltb}
 use lib.ListN.{getD}
-use Rattle.work_rows.specs.Layout.{put, rowsMost, headBase, dueBase}
-
--- ---- rows
-abbrev pub linesBelow : List ℕ → ℕ → ℕ
-linesBelow w i = getD w i 0 / 32 % 4_096
-
--- the row after the part that begins at row i
-abbrev pub afterRow : List ℕ → ℕ → ℕ
-afterRow w i = i + 1 + linesBelow w i
+use Rattle.work_rows.specs.Layout.{put, rowsMost, headBase}
 
 -- ---- marks: a name is open at a row before the end of its mark
 abbrev pub lambdaEnd : List ℕ → ℕ → ℕ
@@ -47,8 +39,11 @@ unfoldable pub putSlot : List ℕ → ℕ → ℕ → List ℕ
 putSlot w i k = put w (headBase + i) (getD w (headBase + i) 0 % 67_108_864 + 67_108_864 * (k % 16))
 
 -- ---- stamps
+abbrev pub stampBase : ℕ
+stampBase = 12_288
+
 abbrev pub stampAt : List ℕ → ℕ → ℕ
-stampAt w a = getD w (dueBase + a) 0
+stampAt w a = getD w (stampBase + a) 0
 
 abbrev pub putStamp : List ℕ → ℕ → ℕ → List ℕ
-putStamp w a v = put w (dueBase + a) v
+putStamp w a v = put w (stampBase + a) v

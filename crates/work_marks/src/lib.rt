@@ -1,11 +1,13 @@
 // Marks of names and slots of rows, in the bits of the work buffer that the rows and the names leave free.
-use work_rows::DUE_BASE;
 use work_rows::HEAD_BASE;
-use work_rows::KINDS;
+use work_rows::LINE_KINDS;
 use work_rows::ROWS_MOST;
 ghost use mathlib.Core.Path.{_≡_};
-ghost use Prim.Native.Nat.{_+_, _<_, _≤_};
-ghost use Rattle.work_marks.specs.MarksModel.{afterRow, lambdaEnd, blockEnd, slotAt, stampAt, putLambdaEnd, putBlockEnd, putSlot, putStamp, raisedLambda, raisedBlock};
+ghost use Prim.Native.Nat.{_+_, _<_};
+ghost use Rattle.work_marks.specs.MarksModel.{lambdaEnd, blockEnd, slotAt, stampAt, putLambdaEnd, putBlockEnd, putSlot, putStamp, raisedLambda, raisedBlock};
+
+// Where the stamps stand.
+const STAMP_BASE: usize = 12288;
 
 // Below a mark stand the row, or the head of a chain of names; a mark has this many values, and the slot stands above it.
 const ROWS: usize = 131072;
@@ -15,14 +17,6 @@ pub const MARKS: usize = 8192;
 const SLOTS: usize = 67108864;
 
 const SLOT_KINDS: usize = 16;
-
-// The row after the part that begins at row i.
-pub fn after_row(work: &[u32], i: usize) -> usize
-    requires { ⌜ i < 4294967296 ⌝ }
-    ensures { λ r. ⌜ (r ≡ afterRow (now (work .entry)) i) × (r ≤ i + 4096) ⌝ }
-{
-    i + 1 + work_rows::get(work, i) / KINDS % ROWS_MOST
-}
 
 // The row after the outermost lambda around that has the name as a parameter.
 pub fn lambda_end(work: &[u32], name: usize) -> usize
@@ -101,12 +95,12 @@ pub fn stamp(work: &[u32], name: usize) -> usize
     requires { ⌜ name < 4294967296 ⌝ }
     ensures { λ r. ⌜ r ≡ stampAt (now (work .entry)) name ⌝ }
 {
-    work_rows::get(work, DUE_BASE + name)
+    work_rows::get(work, STAMP_BASE + name)
 }
 
 pub fn put_stamp(work: &mut [u32], name: usize, stamp: usize)
     requires { ⌜ name < 4294967296 ⌝ }
     ensures { λ _. ⌜ now (work .exit) ≡ putStamp (now (work .entry)) name stamp ⌝ }
 {
-    work_rows::put(work, DUE_BASE + name, stamp)
+    work_rows::put(work, STAMP_BASE + name, stamp)
 }

@@ -1,21 +1,21 @@
 // The work buffer's numbers: read and written at any index, and the parts of a row.
 ghost use mathlib.Core.Path.{_≡_};
-ghost use Prim.Native.Nat.{_%_, _<_};
+ghost use Prim.Native.Nat.{_+_, _%_, _<_, _≤_};
 ghost use lib.ListN.{getD};
-ghost use Rattle.work_rows.specs.Layout.{put, kindAt, belowAt, offsetAt, sameAt, numberAt};
+ghost use Rattle.work_rows.specs.Layout.{put, kindAt, linesBelow, afterRow, offsetAt, sameAt, numberAt};
 
 // The most rows.
 pub const ROWS_MOST: usize = 4096;
 
-// Where the rows' second numbers, the heads of the names' chains, and the agenda stand.
+// Where the rows' second numbers stand; where the heads of the names' chains begin and end.
 pub const NAME_BASE: usize = 4096;
 
 pub const HEAD_BASE: usize = 8192;
 
-pub const DUE_BASE: usize = 12288;
+pub const HEAD_END: usize = 12288;
 
-// A row's first number is its kind and KINDS times the lines below it; its second an offset and OFFSETS times `same`.
-pub const KINDS: usize = 32;
+// A row's first number is its kind and LINE_KINDS times the lines below it; its second an offset and OFFSETS times `same`.
+pub const LINE_KINDS: usize = 32;
 
 pub const OFFSETS: usize = 65536;
 
@@ -49,14 +49,22 @@ pub fn put(work: &mut [u32], i: usize, v: usize)
 pub fn kind(work: &[u32], i: usize) -> usize
     ensures { λ r. ⌜ r ≡ kindAt (now (work .entry)) i ⌝ }
 {
-    get(work, i) % KINDS
+    get(work, i) % LINE_KINDS
 }
 
-// How many lines are below it.
-pub fn below(work: &[u32], i: usize) -> usize
-    ensures { λ r. ⌜ r ≡ belowAt (now (work .entry)) i ⌝ }
+// How many lines are below it. Above them the walk has its marks.
+pub fn lines_below(work: &[u32], i: usize) -> usize
+    ensures { λ r. ⌜ (r ≡ linesBelow (now (work .entry)) i) × (r < 4096) ⌝ }
 {
-    get(work, i) / KINDS
+    get(work, i) / LINE_KINDS % ROWS_MOST
+}
+
+// The row after the part that begins at row i.
+pub fn after_row(work: &[u32], i: usize) -> usize
+    requires { ⌜ i < 4294967296 ⌝ }
+    ensures { λ r. ⌜ (r ≡ afterRow (now (work .entry)) i) × (r ≤ i + 4096) ⌝ }
+{
+    i + 1 + lines_below(work, i)
 }
 
 // Where its name starts, or the line if it has no name.

@@ -27,8 +27,8 @@ counts c = let s = c .before .before .before .before .before .before .before .be
 walk-requires : tie.Need-walk-requires
 walk-requires c κs = counts (c .before .before)
 
-list-requires : tie.Need-list-requires
-list-requires c κs = counts (c .before .before .before .before .before .before) .1
+list-faults-requires : tie.Need-list-faults-requires
+list-faults-requires c κs = counts (c .before .before .before .before .before .before) .1
 
 enum-known-number : tie.Need-enum-known-number
 enum-known-number c = search needs
@@ -43,8 +43,8 @@ returns c =
     let g = walk .before .before .before in
     let k = g .before .before in
     let s = k .before .before .before .before .before .before .args in
-    finds-faults (s .text .now) (length (s .work .now)) (answers g) (λ i. omega (arith, k .slice-known2 .given i)) (walk .walk .ensures) (list .list .ensures .0)
-    (list .list .ensures .1)
+    finds-faults (s .text .now) (length (s .work .now)) (answers g) (λ i. omega (arith, k .slice-known2 .given i)) (walk .walk .ensures) (list .list-faults .ensures .0)
+    (list .list-faults .ensures .1)
 
 same-length-2 : tie.Need-same-length-2
 same-length-2 c = search needs
@@ -61,7 +61,7 @@ find-spec =
     read-tree-requires
     enum-known-globals
     walk-requires
-    list-requires
+    list-faults-requires
     enum-known-number
     same-length
     returns

@@ -13,8 +13,8 @@ push-requires c κs = search needs
 push-requires-2 : tie.Need-push-requires-2
 push-requires-2 c κs = search needs
 
-turns-requires : tie.Need-turns-requires
-turns-requires c κs = search needs
+run-requires : tie.Need-run-requires
+run-requires c κs = search needs
 
 answer-requires : tie.Need-answer-requires
 answer-requires c κs = search needs
@@ -30,7 +30,7 @@ returns c =
     let p₁ = p₂ .before .before .before .before in
     let h = p₁ .before .before .before .before .pre in
     rest-answers _ _ _ _ _ _ _ _ _ _ (h .0 .0) (h .0 .1) (h .0 .2) (h .0 .3) (h .1 .0) (p₁ .clear .ensures) (p₂ .push .ensures .0) (p₃ .push2 .ensures .0)
-    _ _ (t .turns .ensures .0) _ (c .answer .ensures)
+    _ _ (t .run .ensures .0) _ (c .answer .ensures)
 
 pub rest-spec : {M : Type 1} → statement M
 rest-spec =
@@ -39,7 +39,7 @@ rest-spec =
     clear-requires
     push-requires
     push-requires-2
-    turns-requires
+    run-requires
     answer-requires
     same-length
     returns)

@@ -30,8 +30,8 @@ returns c =
     let a = f .before .before .before .before .before .args in
     report-short (f .find .ensures) (k .count .given .1) (a .out .now) (c .if1 .taken)
 
-write-requires : tie.Need-write-requires
-write-requires c κs =
+write-records-requires : tie.Need-write-records-requires
+write-records-requires c κs =
     let k = c .before .before .before .before in
     let h = few (k .before .before .before .before .find .ensures) (k .count .given .1) in
     (omega arith, omega arith)
@@ -53,7 +53,7 @@ returns-2 c =
     let f = k .before .before .before .before in
     let a = f .before .before .before .before .before .args in
     let s = report-written (f .find .ensures) (k .count .given .1) (a .out .now) (i .if1 .left) in
-    (s .0, w .write .ensures ∙ s .1)
+    (s .0, w .write-records .ensures ∙ s .1)
 
 same-length-4 : tie.Need-same-length-4
 same-length-4 c = search needs
@@ -75,7 +75,7 @@ report-spec =
     mul-if1
     same-length
     returns
-    write-requires
+    write-records-requires
     enum-known-number
     same-length-2
     same-length-3

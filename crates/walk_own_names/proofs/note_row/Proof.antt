@@ -14,14 +14,14 @@ kind-requires c κs = search needs
 number-requires : tie.Need-number-requires
 number-requires c κs = search needs
 
-note-requires : tie.Need-note-requires
-note-requires c κs = search needs
+note-name-requires : tie.Need-note-name-requires
+note-name-requires c κs = search needs
 
 number-requires-2 : tie.Need-number-requires-2
 number-requires-2 c κs = search needs
 
-note-requires-2 : tie.Need-note-requires-2
-note-requires-2 c κs = search needs
+note-name-requires-2 : tie.Need-note-name-requires-2
+note-name-requires-2 c κs = search needs
 
 number-requires-3 : tie.Need-number-requires-3
 number-requires-3 c κs = search needs
@@ -32,17 +32,17 @@ add-after-row c = search needs
 after-row-requires : tie.Need-after-row-requires
 after-row-requires c κs = search needs
 
-note-requires-3 : tie.Need-note-requires-3
-note-requires-3 c κs = search needs
+note-name-requires-3 : tie.Need-note-name-requires-3
+note-name-requires-3 c κs = search needs
 
 number-requires-4 : tie.Need-number-requires-4
 number-requires-4 c κs = search needs
 
-add-note : tie.Need-add-note
+add-note : tie.Need-add-note-name
 add-note c = search needs
 
-note-requires-4 : tie.Need-note-requires-4
-note-requires-4 c κs = search needs
+note-name-requires-4 : tie.Need-note-name-requires-4
+note-name-requires-4 c κs = search needs
 
 same-length : tie.Need-same-length
 same-length c = search needs
@@ -54,7 +54,7 @@ returns c =
     let h = m .before .before .before in
     let k = h .before in
     let a = k .before .before .before .args in
-    n .note .ensures
+    n .note-name .ensures
     ∙ (ap (λ x. noted (a .b) x 8_191 (a .work .now)) (m .number .ensures)
     ∙ sym (row-def (a .b) (a .i) (a .work .now) (sym (k .kind .ensures) ∙ h .match .keys1)))
 
@@ -68,7 +68,7 @@ returns-2 c =
     let h = m .before .before .before in
     let k = h .before in
     let a = k .before .before .before .args in
-    n .note2 .ensures
+    n .note-name2 .ensures
     ∙ (ap (λ x. noted (a .b) x 8_191 (a .work .now)) (m .number2 .ensures)
     ∙ sym (row-class (a .b) (a .i) (a .work .now) (sym (k .kind .ensures) ∙ h .match .keys2)))
 
@@ -83,7 +83,7 @@ returns-3 c =
     let h = m .before .before .before in
     let k = h .before in
     let a = k .before .before .before .args in
-    n .note3 .ensures
+    n .note-name3 .ensures
     ∙ (ap (λ x. noted (a .b) x (r .after-row .result) (a .work .now)) (m .number3 .ensures)
     ∙ (ap (λ x. noted (a .b) (numberAt (a .work .now) (a .i)) x (a .work .now)) (r .after-row .ensures .0)
     ∙ sym (row-for (a .b) (a .i) (a .work .now) (sym (k .kind .ensures) ∙ h .match .keys3))))
@@ -98,7 +98,7 @@ returns-4 c =
     let h = m .before .before .before in
     let k = h .before in
     let a = k .before .before .before .args in
-    n .note4 .ensures
+    n .note-name4 .ensures
     ∙ (ap (λ x. noted (a .b) x (a .i + 1) (a .work .now)) (m .number4 .ensures)
     ∙ sym (row-var (a .b) (a .i) (a .work .now) (sym (k .kind .ensures) ∙ h .match .keys4)))
 
@@ -119,16 +119,16 @@ note-row-spec =
     (tie.spec
     kind-requires
     number-requires
-    note-requires
+    note-name-requires
     number-requires-2
-    note-requires-2
+    note-name-requires-2
     number-requires-3
     add-after-row
     after-row-requires
-    note-requires-3
+    note-name-requires-3
     number-requires-4
     add-note
-    note-requires-4
+    note-name-requires-4
     same-length
     returns
     same-length-2

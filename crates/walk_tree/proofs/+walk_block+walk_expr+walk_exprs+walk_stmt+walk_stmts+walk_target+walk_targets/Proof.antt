@@ -5,9 +5,9 @@ use native.Mathlib.Omega.{arith}
 use mathlib.Core.Path.{_≡_, refl, sym, _∙_}
 use mathlib.Core.Bool.{false}
 use lib.ListN.{length}
-use Rattle.work_marks.specs.MarksModel.{afterRow}
-use Rattle.work_marks.specs.LoopsModel.{rowsTo}
-use Rattle.work_marks.proofs.Loops.{rows-end, rows-turn}
+use Rattle.work_rows.specs.Layout.{afterRow}
+use Rattle.work_rows.specs.LoopsModel.{rowsTo}
+use Rattle.work_rows.proofs.Loops.{rows-end, rows-turn}
 use Rattle.walk_tree.specs.WalkModel.{nextTarget, targetAt, walkExpr, walkLine, walkExprs, walkStmts}
 use Rattle.walk_tree.proofs.Ways.{
   after-on,
@@ -165,7 +165,7 @@ walk-targets-below t =
 abbrev walk-block-calls : ℕ → walk-block-lts.Claims
 walk-block-calls t = (open-reads.Asked, open-reads.Learnt, walk-stmts-below t, walk-stmts.Post)
 
-walk-block-open-requires : (t : ℕ) → walk-block-lts.Need-open-requires (walk-block-calls t) (walk-block-at t) walk-block.Post
+walk-block-open-requires : (t : ℕ) → walk-block-lts.Need-enter-block-requires (walk-block-calls t) (walk-block-at t) walk-block.Post
 walk-block-open-requires t c κs = omega arith
 
 walk-block-add-walk-stmts : (t : ℕ) → walk-block-lts.Need-add-walk-stmts (walk-block-calls t) (walk-block-at t) walk-block.Post
@@ -226,7 +226,7 @@ walk-expr-kind-requires t c κs = tt
 walk-expr-number-requires : (t : ℕ) → walk-expr-lts.Need-number-requires (walk-expr-calls t) (walk-expr-at t) walk-expr.Post
 walk-expr-number-requires t c κs = omega arith
 
-walk-expr-read-requires : (t : ℕ) → walk-expr-lts.Need-read-requires (walk-expr-calls t) (walk-expr-at t) walk-expr.Post
+walk-expr-read-requires : (t : ℕ) → walk-expr-lts.Need-judge-read-requires (walk-expr-calls t) (walk-expr-at t) walk-expr.Post
 walk-expr-read-requires t c κs =
     let a = c .before .before .before .before .before .before .before .before .before .before .before .before .args in
     omega (arith, c .number .ensures, number-small (a .work .now) (a .i) (omega arith))
@@ -255,7 +255,7 @@ walk-expr-walk-exprs-requires t c κs = omega arith
 walk-expr-push-lambda-requires : (t : ℕ) → walk-expr-lts.Need-push-lambda-requires (walk-expr-calls t) (walk-expr-at t) walk-expr.Post
 walk-expr-push-lambda-requires t c κs = tt
 
-walk-expr-open-requires : (t : ℕ) → walk-expr-lts.Need-open-requires (walk-expr-calls t) (walk-expr-at t) walk-expr.Post
+walk-expr-open-requires : (t : ℕ) → walk-expr-lts.Need-enter-block-requires (walk-expr-calls t) (walk-expr-at t) walk-expr.Post
 walk-expr-open-requires t c κs =
     let p = c .before in
     omega (arith, scoped (p .push-lambda .ensures))
@@ -295,7 +295,7 @@ walk-expr-returns-3 t c =
     let i = k .before .before .before .before in
     let i₂ = i .before in
     expr-var _ _ _ _ _ _ (i₂ .if1 .left) (i .if2 .left) _ _ (sym (k .kind .ensures) ∙ m .match .keys1) (n .number .ensures)
-    (r .read .ensures)
+    (r .judge-read .ensures)
 
 walk-expr-same-length-2 : (t : ℕ) → walk-expr-lts.Need-same-length-2 (walk-expr-calls t) (walk-expr-at t) walk-expr.Post
 walk-expr-same-length-2 t c =
@@ -475,7 +475,7 @@ walk-stmt-walk-block-requires t c κs =
 walk-stmt-pop-requires : (t : ℕ) → walk-stmt-lts.Need-pop-requires (walk-stmt-calls t) (walk-stmt-at t) walk-stmt.Post
 walk-stmt-pop-requires t c κs = tt
 
-walk-stmt-reopen-requires : (t : ℕ) → walk-stmt-lts.Need-reopen-requires (walk-stmt-calls t) (walk-stmt-at t) walk-stmt.Post
+walk-stmt-reopen-requires : (t : ℕ) → walk-stmt-lts.Need-reenter-block-requires (walk-stmt-calls t) (walk-stmt-at t) walk-stmt.Post
 walk-stmt-reopen-requires t c κs =
     let o = c .before .before .before .before .before .before .before .before .before .before .before .before .before .before .before .before .before .before .before .before .before .before in
     omega (arith, o .pre .1, scoped (c .pop .ensures))
@@ -585,7 +585,7 @@ walk-stmt-returns-3 t c =
     let i = a₂ .before .before in
     let i₂ = i .before in
     stmt-def _ _ _ _ _ (i₂ .if1 .left) (i .if2 .left) _ (a₂ .after-row .ensures .0) _ _ _ _ _ _ (sym (k .kind .ensures) ∙ m .match .keys1)
-    (n .number .ensures) (d .define .ensures) (p₂ .push .ensures) (w .walk-block .ensures) (p .pop .ensures) (r .reopen .ensures)
+    (n .number .ensures) (d .define .ensures) (p₂ .push .ensures) (w .walk-block .ensures) (p .pop .ensures) (r .reenter-block .ensures)
 
 walk-stmt-same-length-2 : (t : ℕ) → walk-stmt-lts.Need-same-length-2 (walk-stmt-calls t) (walk-stmt-at t) walk-stmt.Post
 walk-stmt-same-length-2 t c =

@@ -10,8 +10,8 @@ new-requires : tie.Need-new-requires
 new-requires c κs =
     tt
 
-begin-requires : tie.Need-begin-requires
-begin-requires c κs =
+bind-given-requires : tie.Need-bind-given-requires
+bind-given-requires c κs =
     omega arith
 
 walk-stmts-requires : tie.Need-walk-stmts-requires
@@ -31,8 +31,8 @@ returns c =
     let b = w .before .before .before .before in
     let n = b .before .before in
     let a = n .before .before .before .args in
-    walk-whole (a .text .now) (a .globals) (a .rows) _ (a .work .now) _ _ (n .new .ensures) (b .begin .ensures) (w .walk-stmts .ensures)
+    walk-whole (a .text .now) (a .globals) (a .rows) _ (a .work .now) _ _ (n .new .ensures) (b .bind-given .ensures) (w .walk-stmts .ensures)
 
 pub walk-spec : {M : Type 1} → statement M
 walk-spec =
-    tie.close (tie.spec new-requires begin-requires walk-stmts-requires same-length returns)
+    tie.close (tie.spec new-requires bind-given-requires walk-stmts-requires same-length returns)

@@ -1,11 +1,11 @@
 -- The test for a def.
 use borrow.Author.Needs.{needs}
 use Rattle.walk_blocks.proofs.Ways.{reopen-def, reopen-plain}
-use Rattle.walk_blocks.proofs.reopen.Statement.{statement}
-use Rattle.walk_blocks.proofs.reopen.Tie as tie
+use Rattle.walk_blocks.proofs.reenter_block.Statement.{statement}
+use Rattle.walk_blocks.proofs.reenter_block.Tie as tie
 
-open-requires : tie.Need-open-requires
-open-requires c κs = search needs
+enter-block-requires : tie.Need-enter-block-requires
+enter-block-requires c κs = search needs
 
 same-length : tie.Need-same-length
 same-length c = search needs
@@ -22,5 +22,5 @@ returns-2 c =
     let a = c .before .before .before .before .args in
     reopen-plain (a .text .now) (a .s) (a .work .now) (c .if1 .left)
 
-pub reopen-spec : {M : Type 1} → statement M
-reopen-spec = tie.close (tie.spec open-requires same-length returns returns-2)
+pub reenter-block-spec : {M : Type 1} → statement M
+reenter-block-spec = tie.close (tie.spec enter-block-requires same-length returns returns-2)

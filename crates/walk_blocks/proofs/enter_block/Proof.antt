@@ -2,8 +2,8 @@
 use mathlib.Core.Path.{sym, _∙_}
 use borrow.Author.Needs.{needs}
 use Rattle.walk_blocks.proofs.Ways.{open-owned, open-plain}
-use Rattle.walk_blocks.proofs.open.Statement.{statement}
-use Rattle.walk_blocks.proofs.open.Tie as tie
+use Rattle.walk_blocks.proofs.enter_block.Statement.{statement}
+use Rattle.walk_blocks.proofs.enter_block.Tie as tie
 
 enter-requires : tie.Need-enter-requires
 enter-requires c κs = search needs
@@ -11,11 +11,11 @@ enter-requires c κs = search needs
 owns-requires : tie.Need-owns-requires
 owns-requires c κs = search needs
 
-add-note-rows : tie.Need-add-note-rows
+add-note-rows : tie.Need-add-collect-locals
 add-note-rows c = search needs
 
-note-rows-requires : tie.Need-note-rows-requires
-note-rows-requires c κs = search needs
+collect-locals-requires : tie.Need-collect-locals-requires
+collect-locals-requires c κs = search needs
 
 same-length : tie.Need-same-length
 same-length c = search needs
@@ -27,7 +27,7 @@ returns c =
     let o = i .before in
     let e = o .before .before .before in
     let a = e .before .before .before .before .args in
-    open-owned (a .text .now) (a .s) (a .work .now) (a .i) (a .stop) _ (e .enter .ensures) (sym (o .owns .ensures) ∙ i .if1 .taken) _ (n .note-rows .ensures)
+    open-owned (a .text .now) (a .s) (a .work .now) (a .i) (a .stop) _ (e .enter .ensures) (sym (o .owns .ensures) ∙ i .if1 .taken) _ (n .collect-locals .ensures)
 
 same-length-2 : tie.Need-same-length-2
 same-length-2 c = search needs
@@ -39,14 +39,14 @@ returns-2 c =
     let a = e .before .before .before .before .args in
     open-plain (a .text .now) (a .s) (a .work .now) (a .i) (a .stop) _ (e .enter .ensures) (sym (o .owns .ensures) ∙ c .if1 .left)
 
-pub open-spec : {M : Type 1} → statement M
-open-spec =
+pub enter-block-spec : {M : Type 1} → statement M
+enter-block-spec =
     tie.close
     (tie.spec
     enter-requires
     owns-requires
     add-note-rows
-    note-rows-requires
+    collect-locals-requires
     same-length
     returns
     same-length-2

@@ -4,8 +4,8 @@ use mathlib.Core.Path.{sym, _∙_}
 use mathlib.Core.Logic.{⊎-elim}
 use borrow.Author.Needs.{needs}
 use Rattle.walk_own_names.proofs.Ways.{noted-none, noted-stays, noted-first, noted-new}
-use Rattle.walk_own_names.proofs.note.Statement.{statement}
-use Rattle.walk_own_names.proofs.note.Tie as tie
+use Rattle.walk_own_names.proofs.note_name.Statement.{statement}
+use Rattle.walk_own_names.proofs.note_name.Tie as tie
 
 stamp-requires : tie.Need-stamp-requires
 stamp-requires c κs = search needs
@@ -56,8 +56,8 @@ returns-2 c =
 returns-3 : tie.Need-returns-3
 returns-3 c = let a = c .before .before .args in sym (noted-none (a .b) (a .name) (a .from) (a .work .now) (c .if1 .left))
 
-pub note-spec : {M : Type 1} → statement M
-note-spec =
+pub note-name-spec : {M : Type 1} → statement M
+note-name-spec =
     tie.close
     (tie.spec
     stamp-requires

@@ -3,11 +3,11 @@ use Prim.Native.Nat.{_-_}
 use native.Mathlib.Omega.{arith}
 use mathlib.Core.Path.{_≡_, refl, sym, _∙_}
 use lib.ListN.{length}
-use Rattle.work_marks.proofs.Loops.{rows-end}
+use Rattle.work_rows.proofs.Loops.{rows-end}
 use Rattle.walk_own_names.specs.OwnNamesModel.{rowNoted, nextNoted, allNoted}
 use Rattle.walk_own_names.proofs.Ways.{all-more}
-use Rattle.walk_own_names.proofs.note_rows.Statement.{statement}
-use Rattle.walk_own_names.proofs.note_rows.Tie as tie
+use Rattle.walk_own_names.proofs.collect_locals.Statement.{statement}
+use Rattle.walk_own_names.proofs.collect_locals.Tie as tie
 
 abbrev Inv-loop : tie.InvT-loop
 Inv-loop work₀ b first stop at₀ work at = (length work ≡ length work₀) × (allNoted b at stop work ≡ allNoted b first stop work₀)
@@ -48,8 +48,8 @@ returns c =
     let a = l .before .before .args in
     sym (rows-end nextNoted (rowNoted (a .b)) (l .loop .at) (a .stop) (l .loop .work) (c .loop-test .left)) ∙ l .loop .inv .1
 
-pub note-rows-spec : {M : Type 1} → statement M
-note-rows-spec =
+pub collect-locals-spec : {M : Type 1} → statement M
+collect-locals-spec =
     tie.close
     (tie.spec
     Inv-loop

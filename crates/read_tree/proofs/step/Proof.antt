@@ -3,8 +3,8 @@ use native.Mathlib.Omega.{arith}
 use borrow.Author.Needs.{needs}
 use Rattle.read_tree.proofs.InNumbers.{turn-closes, turn-takes}
 use Rattle.read_tree.proofs.Bounds.{close-bounded}
-use Rattle.read_tree.proofs.turn.Statement.{statement}
-use Rattle.read_tree.proofs.turn.Tie as tie
+use Rattle.read_tree.proofs.step.Statement.{statement}
+use Rattle.read_tree.proofs.step.Tie as tie
 
 -- the start, from where the entry was read
 abbrev S : tie.After-get → tie.Start
@@ -38,8 +38,8 @@ returns c =
     let s = S g in
     (turn-closes _ _ _ _ (g .get .ensures .0) (t .if1 .taken) _ (k .close .ensures), close-bounded _ _ (s .pre .0) (s .pre .1))
 
-take-requires : tie.Need-take-requires
-take-requires c κs = S (c .before .before) .pre
+take-line-requires : tie.Need-take-line-requires
+take-line-requires c κs = S (c .before .before) .pre
 
 same-length-2 : tie.Need-same-length-2
 same-length-2 c = search needs
@@ -48,10 +48,10 @@ returns-2 : tie.Need-returns-2
 returns-2 c =
     let k = c .before .before in
     let t = k .before .before in
-    (turn-takes _ _ _ _ (t .before .get .ensures .0) (t .if1 .left) _ (k .take .ensures .0), k .take .ensures .1)
+    (turn-takes _ _ _ _ (t .before .get .ensures .0) (t .if1 .left) _ (k .take-line .ensures .0), k .take-line .ensures .1)
 
-pub turn-spec : {M : Type 1} → statement M
-turn-spec =
+pub step-spec : {M : Type 1} → statement M
+step-spec =
     tie.close
     (tie.spec
     add-get
@@ -61,6 +61,6 @@ turn-spec =
     sub-t13
     same-length
     returns
-    take-requires
+    take-line-requires
     same-length-2
     returns-2)

@@ -3,8 +3,8 @@ use mathlib.Core.Path.{_≡_, refl, sym, subst, _∙_}
 use lib.ListN.{length}
 use Rattle.read_tree.specs.MachineModel.{Machine, machine, Turns, Bounded, left}
 use Rattle.read_tree.proofs.InNumbers.{later, at-end}
-use Rattle.read_tree.proofs.turns.Statement.{statement}
-use Rattle.read_tree.proofs.turns.Tie as tie
+use Rattle.read_tree.proofs.run.Statement.{statement}
+use Rattle.read_tree.proofs.run.Tie as tie
 
 abbrev Inv-loop : tie.InvT-loop
 Inv-loop text work₀ s₀ work s =
@@ -16,13 +16,13 @@ abbrev μ-loop : tie.MeasureT-loop
 loop-holds : tie.Need-loop-holds Inv-loop μ-loop
 loop-holds c = (c .before .before .pre, refl, λ x t. t)
 
-turn-requires : tie.Need-turn-requires Inv-loop μ-loop
-turn-requires c κs =
+step-requires : tie.Need-step-requires Inv-loop μ-loop
+step-requires c κs =
     let l = c .before .before .before in
     (l .loop .inv .0, c .before .if1 .taken)
 
 loop-less : tie.Need-loop-less Inv-loop μ-loop
-loop-less c = c .before .before .turn .ensures .1 .1
+loop-less c = c .before .before .step .ensures .1 .1
 
 loop-again : tie.Need-loop-again Inv-loop μ-loop
 loop-again c =
@@ -30,10 +30,10 @@ loop-again c =
     let t = k .before .before in
     let l = t .before .before in
     let a = l .before .before .before .args in (
-      k .turn .ensures .1 .0,
+      k .step .ensures .1 .0,
       k .turn .kept .1 .0 ∙ l .loop .inv .1,
       λ x v.
-          subst (λ (m : Machine). Turns (a .text .now) m x) (sym (k .turn .ensures .0)) (later _ _ (t .if1 .taken) (l .loop .inv .2 x v)),
+          subst (λ (m : Machine). Turns (a .text .now) m x) (sym (k .step .ensures .0)) (later _ _ (t .if1 .taken) (l .loop .inv .2 x v)),
     )
 
 same-length : tie.Need-same-length Inv-loop μ-loop
@@ -44,7 +44,7 @@ returns c =
     let l = c .before .before in
     (λ x t. at-end _ _ (c .if1 .left) (l .loop .inv .2 x t), l .loop .inv .0)
 
-pub turns-spec : {M : Type 1} → statement M
-turns-spec =
+pub run-spec : {M : Type 1} → statement M
+run-spec =
     tie.close
-    (tie.spec Inv-loop μ-loop loop-holds turn-requires loop-less loop-again same-length returns)
+    (tie.spec Inv-loop μ-loop loop-holds step-requires loop-less loop-again same-length returns)

@@ -6,8 +6,8 @@ use mathlib.Core.Logic.{⊎-elim}
 use lib.ListN.{length}
 use borrow.Author.Needs.{needs}
 use Rattle.walk_judge.proofs.Ways.{own-by, own-not, read-param, read-unbound, read-own, read-in-view, read-undefined}
-use Rattle.walk_judge.proofs.read.Statement.{statement}
-use Rattle.walk_judge.proofs.read.Tie as tie
+use Rattle.walk_judge.proofs.judge_read.Statement.{statement}
+use Rattle.walk_judge.proofs.judge_read.Tie as tie
 
 lambda-end-requires : tie.Need-lambda-end-requires
 lambda-end-requires c κs = search needs
@@ -88,8 +88,8 @@ returns-4 c =
     (λ v. own-not (a .s) (a .name) (a .work .now) (v .left)) (i₃ .if2 .came))
     (sym (i₂ .is-defined .ensures) ∙ i .if5 .left) _ _ (u .undefined-kind .ensures) (f .fault2 .ensures)
 
-pub read-spec : {M : Type 1} → statement M
-read-spec =
+pub judge-read-spec : {M : Type 1} → statement M
+judge-read-spec =
     tie.close
     (tie.spec
     lambda-end-requires

@@ -2,8 +2,8 @@
 use mathlib.Core.Path.{sym}
 use lib.ListN.{List·getD-eq-default}
 use borrow.Author.Needs.{needs}
-use Rattle.print_lines.proofs.get.Statement.{statement}
-use Rattle.print_lines.proofs.get.Tie as tie
+use Rattle.print_lines.proofs.number_at.Statement.{statement}
+use Rattle.print_lines.proofs.number_at.Tie as tie
 
 mul-result : tie.Need-mul-result
 mul-result c = search needs
@@ -17,5 +17,5 @@ returns c = search needs
 returns-2 : tie.Need-returns-2
 returns-2 c = sym (List·getD-eq-default (c .before .args .report .now) 0 (c .if1 .left))
 
-pub get-spec : {M : Type 1} → statement M
-get-spec = tie.close (tie.spec mul-result shared-slice-read-result returns returns-2)
+pub number-at-spec : {M : Type 1} → statement M
+number-at-spec = tie.close (tie.spec mul-result shared-slice-read-result returns returns-2)

@@ -7,8 +7,8 @@ use Rattle.report_order.specs.declared.Around.{Around}
 use Rattle.report_order.specs.OrderModel.{entriesFrom, entries}
 use Rattle.report_order.proofs.Stored.{Left, left-all}
 use Rattle.report_order.proofs.AtRow.{class-few, placed-few, entries-more, entries-end}
-use Rattle.report_order.proofs.list.Statement.{statement}
-use Rattle.report_order.proofs.list.Tie as tie
+use Rattle.report_order.proofs.list_faults.Statement.{statement}
+use Rattle.report_order.proofs.list_faults.Tie as tie
 
 abbrev Inv-loop : tie.InvT-loop
 Inv-loop work₀ first rows x₀ c₀ p₀ work x c p =
@@ -60,8 +60,8 @@ returns c =
     let r = entries-end (l .loop .work) (l .loop .x) (l .loop .p) (a .rows) (l .loop .c) (l .loop .inv .3) (c .loop-test .left) in
     (r .0, omega (arith, r .1))
 
-pub list-spec : {M : Type 1} → statement M
-list-spec =
+pub list-faults-spec : {M : Type 1} → statement M
+list-faults-spec =
     tie.close
     (tie.spec
     Inv-loop

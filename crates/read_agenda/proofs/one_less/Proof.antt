@@ -7,8 +7,8 @@ use borrow.Author.Tests.{le-leb, lt-leb}
 use Rattle.read_agenda.specs.StackModel.{stack, lessened}
 use Rattle.read_agenda.proofs.FirstTest.{holds, fails}
 use borrow.Author.Needs.{needs}
-use Rattle.read_agenda.proofs.less.Statement.{statement}
-use Rattle.read_agenda.proofs.less.Tie as tie
+use Rattle.read_agenda.proofs.one_less.Statement.{statement}
+use Rattle.read_agenda.proofs.one_less.Tie as tie
 
 sub-result : tie.Need-sub-result
 sub-result c = search needs
@@ -39,7 +39,7 @@ returns-2 c =
     let t = p .before .before in
     (fails _ _ (lt-leb _ 1 (t .if1 .left)) (ap (λ (w : List ℕ). stack w (t .before .before .args .top)) (p .put .ensures)), omega arith)
 
-pub less-spec : {M : Type 1} → statement M
-less-spec =
+pub one-less-spec : {M : Type 1} → statement M
+one-less-spec =
     tie.close
     (tie.spec sub-result returns add-put sub-put sub-put-2 put-requires same-length returns-2)

@@ -3,8 +3,8 @@ use mathlib.Core.Path.{ap, _∙_}
 use borrow.Author.Needs.{needs}
 use Rattle.walk_builtins.specs.Table.{names}
 use Rattle.walk_given.specs.GivenModel.{given, globalsFrom, begun}
-use Rattle.walk_given.proofs.begin.Statement.{statement}
-use Rattle.walk_given.proofs.begin.Tie as tie
+use Rattle.walk_given.proofs.bind_given.Statement.{statement}
+use Rattle.walk_given.proofs.bind_given.Tie as tie
 
 clear-requires : tie.Need-clear-requires
 clear-requires c κs = search needs
@@ -28,7 +28,7 @@ returns c =
     d .define-globals .ensures
     ∙ ap (globalsFrom (a .globals) 0 (a .s)) (d₂ .define-builtins .ensures ∙ ap (given (a .text .now) (a .s) names) (c₂ .clear .ensures))
 
-pub begin-spec : {M : Type 1} → statement M
-begin-spec =
+pub bind-given-spec : {M : Type 1} → statement M
+bind-given-spec =
     tie.close
     (tie.spec clear-requires define-builtins-requires define-globals-requires same-length returns)

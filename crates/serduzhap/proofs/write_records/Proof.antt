@@ -7,8 +7,8 @@ use borrow.Author.Needs.{needs}
 use Rattle.spec_answers.specs.Answers.{over}
 use Rattle.serduzhap.specs.Calls.{recordsOf}
 use Rattle.serduzhap.proofs.Over.{turn}
-use Rattle.serduzhap.proofs.write.Statement.{statement}
-use Rattle.serduzhap.proofs.write.Tie as tie
+use Rattle.serduzhap.proofs.write_records.Statement.{statement}
+use Rattle.serduzhap.proofs.write_records.Tie as tie
 
 abbrev Inv-loop : tie.InvT-loop
 Inv-loop text work out₀ count j₀ out j =
@@ -54,8 +54,8 @@ returns c =
     let e : h .loop .j ≡ a .count = omega arith in
     h .loop .inv .1 .1 ∙ ap (λ n. over (recordsOf (a .text .now) (a .work .now) 0 n) (a .out .now)) e
 
-pub write-spec : {M : Type 1} → statement M
-write-spec =
+pub write-records-spec : {M : Type 1} → statement M
+write-records-spec =
     tie.close
     (tie.spec
     Inv-loop

@@ -7,7 +7,7 @@ use mathlib.Core.Bool.{cond}
 use mathlib.Core.List.{List}
 use lib.Dec.{ltb}
 use borrow.Author.Tests.{lt-ltb, le-ltb}
-use Rattle.work_marks.specs.LoopsModel.{each, rowsTo}
+use Rattle.work_rows.specs.LoopsModel.{each, rowsTo}
 
 module _ (next : List ℕ → ℕ → ℕ) (f : ℕ → List ℕ → List ℕ) where
   pub rows-end : (at stop : ℕ) (w : List ℕ) → stop ≤ at → rowsTo next f at stop w ≡ w

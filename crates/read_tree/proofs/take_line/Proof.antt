@@ -4,8 +4,8 @@ use native.Mathlib.Omega.{arith}
 use borrow.Author.Needs.{needs}
 use Rattle.read_tree.proofs.InNumbers.{take-stops, take-goes}
 use Rattle.read_tree.proofs.Bounds.{Fresh, fresh-due, few-below, stop-bounded, on-bounded}
-use Rattle.read_tree.proofs.take.Statement.{statement}
-use Rattle.read_tree.proofs.take.Tie as tie
+use Rattle.read_tree.proofs.take_line.Statement.{statement}
+use Rattle.read_tree.proofs.take_line.Tie as tie
 
 -- the start, and where the line was read
 abbrev S : tie.After-line-due → tie.Start
@@ -36,8 +36,8 @@ write-row-requires c κs =
     let b = S (D e) .pre .0 in
     (b .few, λ h. omega (arith, known e .name h, b .short))
 
-less-requires : tie.Need-less-requires
-less-requires c κs =
+one-less-requires : tie.Need-one-less-requires
+one-less-requires c κs =
     let s = S (D (c .before .before .before .before .before .before)) in
     (s .pre .1, omega (arith, s .pre .0 .due, s .pre .0 .short))
 
@@ -75,7 +75,7 @@ push-due-requires c κs =
     let l = L k in
     let e = E (R l) in
     let b = S (D e) .pre .0 in (
-      omega (arith, l .less .ensures .1, b .due, b .short),
+      omega (arith, l .one-less .ensures .1, b .due, b .short),
       b .few,
       omega (arith, c .minus .ensures),
       few-below _ _ _ _ _ (known e) (k .before .before .before .wide .ensures .0) (k .before .before .wide2 .ensures .0) (k .before .wide3 .ensures .0) (k .children-of .ensures),
@@ -100,25 +100,25 @@ returns-2 c =
     let s = S (D e) in (
       take-goes _ _ _ _ _ (D e .line-due .ensures) (e .if1 .left) _ _ _ _ _ _ _ _ _ _
           (r .write-row .ensures)
-          (l .less .ensures .0)
+          (l .one-less .ensures .0)
           (k .before .before .before .wide .ensures .0)
           (k .before .before .wide2 .ensures .0)
           (k .before .wide3 .ensures .0)
           (k .children-of .ensures)
           (m .minus .ensures)
           (p .push-due .ensures .0),
-      on-bounded _ _ (s .pre .0) (s .pre .1) _ _ (known e) (omega (arith, p .push-due .ensures .1, l .less .ensures .1)),
+      on-bounded _ _ (s .pre .0) (s .pre .1) _ _ (known e) (omega (arith, p .push-due .ensures .1, l .one-less .ensures .1)),
     )
 
-pub take-spec : {M : Type 1} → statement M
-take-spec =
+pub take-line-spec : {M : Type 1} → statement M
+take-line-spec =
     tie.close
     (tie.spec
     add-line-due
     line-due-requires
     returns
     write-row-requires
-    less-requires
+    one-less-requires
     wide-requires
     wide-requires-2
     wide-requires-3
