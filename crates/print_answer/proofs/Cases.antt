@@ -12,7 +12,8 @@ use Rattle.spec_text.specs.Tree.{Tree}
 use Rattle.spec_text.specs.Reading.{Reading, tree, refusal, reading, shortestWork}
 use Rattle.spec_faults.specs.Faults.{faults, recordLength, records}
 use Rattle.spec_answers.specs.Answers.{ReportAnswer, written, refused, reported, report}
-use Rattle.spec_answers.specs.Printed.{decimalOf, lineWith, faultLines, refusedLine, reportBuffer, printed}
+use Rattle.spec_answers.specs.Printed.{faultLines, refusedLine, reportBuffer, printed}
+use Rattle.spec_text.specs.Writing.{decimalOf, lineWith}
 
 module _ (text : Bytes) (P : ReportAnswer → Bytes → Type 0)
     (none : (k n : ℕ) → P (refused k n) (refusedLine k n))

@@ -11,7 +11,8 @@ use Rattle.spec_text.specs.Bytes.{Bytes}
 use Rattle.spec_text.specs.Reading.{shortestWork}
 use Rattle.spec_faults.specs.Faults.{Fault, faults, record7, records}
 use Rattle.spec_answers.specs.Answers.{ReportAnswer, report, nthFault, over, reportOut}
-use Rattle.spec_answers.specs.Printed.{decimalOf, lineWith, faultLine, faultLines, refusedLine, reportBuffer, printed}
+use Rattle.spec_answers.specs.Printed.{faultLine, faultLines, refusedLine, reportBuffer, printed}
+use Rattle.spec_text.specs.Writing.{decimalOf, lineWith}
 use Rattle.report_records.specs.declared.Record.{Record}
 use Rattle.print_lines.specs.LinesModel.{recordIn, recordLine, recordLines}
 use Rattle.find_faults.specs.Found.{Shown}

@@ -13,9 +13,10 @@ use Rattle.spec_text.specs.Bytes.{Bytes, Part, noPart, bytes}
 use Rattle.spec_text.specs.Reading.{shortestWork}
 use Rattle.spec_faults.specs.Faults.{Fault, faults, message, messageOf}
 use Rattle.spec_answers.specs.Answers.{nthFault}
-use Rattle.spec_answers.specs.Printed.{digits, decimalOf, tabbed, lineWith, faultLine, faultLines, refusedLine, printed}
-use Rattle.report_messages.specs.MessagesModel.{Pushes}
-use Rattle.report_messages.proofs.Pushed.{pushed-whole}
+use Rattle.spec_answers.specs.Printed.{faultLine, faultLines, refusedLine, printed}
+use Rattle.spec_text.specs.Writing.{digits, decimalOf, tabbed, lineWith}
+use Rattle.write_bytes.specs.PushModel.{Pushes}
+use Rattle.write_bytes.proofs.Pushed.{pushed-whole}
 use Rattle.report_messages.proofs.Lengths.{length-said}
 use Rattle.find_faults.proofs.Theorems.{faults-short, faults-classless}
 use Rattle.print_answer.proofs.Cases.{by-answer}

@@ -1,7 +1,7 @@
 // What `namecheck` prints, as bytes in a buffer: the only thing left to the program is to read and to write.
 use serduzhap::ReportResult;
 ghost use Rattle.spec_answers.specs.Printed.{printed};
-ghost use Rattle.report_messages.specs.MessagesModel.{Pushes};
+ghost use Rattle.write_bytes.specs.PushModel.{Pushes};
 
 // The numbers of the report buffer and of the work buffer.
 pub const REPORT: usize = 16384;

@@ -1,3 +1,2 @@
 -- The proofs about the lines.
-mod Digits
 mod Lines

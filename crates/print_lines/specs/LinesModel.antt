@@ -3,7 +3,7 @@ use Prim.Native.Nat.{ℕ, zero, suc, _+_, _*_}
 use mathlib.Core.List.{List, [], _∷_, _++_}
 use lib.ListN.{getD}
 use Rattle.spec_text.specs.Bytes.{Bytes}
-use Rattle.spec_answers.specs.Printed.{decimalOf, lineWith}
+use Rattle.spec_text.specs.Writing.{decimalOf, lineWith}
 use Rattle.report_records.specs.declared.Record.{Record}
 use Rattle.report_messages.specs.MessagesModel.{recordMessage}
 

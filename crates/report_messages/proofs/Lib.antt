@@ -1,3 +1,2 @@
--- The proofs about messages. Pushed: what is pushed in parts is pushed at once. Words: how long a message is.
-pub mod Pushed
+-- The proofs about messages. Lengths: how long a message is.
 pub mod Lengths

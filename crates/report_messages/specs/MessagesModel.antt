@@ -1,9 +1,4 @@
--- The message of a record: the Rust's words round the bytes of the text that the record shows. And bytes that are written one after the other to
--- an output buffer, as many as there is room for.
-use Prim.Native.Nat.{ℕ, _+_, _-_, _≤_}
-use mathlib.Core.Path.{_≡_}
-use mathlib.Core.List.{List, _++_}
-use lib.ListN.{length, take, drop}
+-- The message of a record: the Rust's words round the bytes of the text that the record shows.
 use Rattle.spec_text.specs.Bytes.{Bytes, partOf}
 use Rattle.spec_faults.specs.Faults.{message}
 use Rattle.report_records.specs.declared.Record.{Record}
@@ -11,18 +6,3 @@ use Rattle.report_records.specs.declared.Record.{Record}
 -- the message of a record
 abbrev pub recordMessage : Bytes → Record → Bytes
 recordMessage text r = message (r .kind) (partOf text (r .name) (r .«name_len»)) (partOf text (r .class) (r .«class_len»))
-
--- ---- bytes bytesPushed to a buffer that is filled up to an offset
--- those for which there is room
-abbrev pub fitting : List ℕ → ℕ → List ℕ → List ℕ
-fitting old at new = take (length old - at) new
-
-unfoldable pub bytesPushed : List ℕ → ℕ → List ℕ → List ℕ
-bytesPushed old at new = take at old ++ (fitting old at new ++ drop (at + length (fitting old at new)) old)
-
-unfoldable pub pushedTo : List ℕ → ℕ → List ℕ → ℕ
-pushedTo old at new = at + length (fitting old at new)
-
--- what is done by a push: the buffer after it, and the offset, which is inside
-abbrev pub Pushes : List ℕ → ℕ → List ℕ → List ℕ → ℕ → Type 0
-Pushes old at new out to = (out ≡ bytesPushed old at new) × (to ≡ pushedTo old at new) × (to ≤ length out)

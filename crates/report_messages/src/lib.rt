@@ -5,22 +5,8 @@ ghost use mathlib.Core.Path.{_≡_};
 ghost use mathlib.Core.List.{_++_};
 ghost use Prim.Native.Nat.{_<_, _≤_};
 ghost use lib.ListN.{length};
-ghost use Rattle.report_messages.specs.MessagesModel.{recordMessage, Pushes};
-
-// Pushes bytes to a buffer that is filled up to an offset, as many as there is room for; answers how far it is filled.
-pub fn push(out: &mut [u8], at: usize, bytes: &[u8]) -> usize
-    requires { ⌜ at ≤ length (now out) ⌝ }
-    ensures { λ r. ⌜ Pushes (now (out .entry)) at (now (bytes .entry)) (now (out .exit)) r ⌝ }
-{
-    let mut i = 0;
-    let mut to = at;
-    while i < bytes.len() && to < out.len() {
-        out[to] = bytes[i];
-        i += 1;
-        to += 1;
-    }
-    to
-}
+ghost use Rattle.report_messages.specs.MessagesModel.{recordMessage};
+ghost use Rattle.write_bytes.specs.PushModel.{Pushes};
 
 // Pushes words with the names between them.
 fn round(
@@ -35,11 +21,11 @@ fn round(
     requires { ⌜ at ≤ length (now out) ⌝ }
     ensures { λ r. ⌜ Pushes (now (out .entry)) at (now (before .entry) ++ (now (name .entry) ++ (now (between .entry) ++ (now (class .entry) ++ now (after .entry))))) (now (out .exit)) r ⌝ }
 {
-    let a = push(out, at, before);
-    let b = push(out, a, name);
-    let c = push(out, b, between);
-    let d = push(out, c, class);
-    push(out, d, after)
+    let a = write_bytes::push(out, at, before);
+    let b = write_bytes::push(out, a, name);
+    let c = write_bytes::push(out, b, between);
+    let d = write_bytes::push(out, c, class);
+    write_bytes::push(out, d, after)
 }
 
 // Pushes the message of a record.

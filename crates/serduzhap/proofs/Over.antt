@@ -12,7 +12,7 @@ use Rattle.spec_text.specs.Bytes.{Bytes}
 use Rattle.spec_answers.specs.Answers.{over, wroteIf, wrote, tooLong}
 use Rattle.report_records.specs.RecordsModel.{numbers32}
 use Rattle.report_records.specs.declared.Record.{Record}
-use Rattle.report_messages.specs.MessagesModel.{bytesPushed}
+use Rattle.write_bytes.specs.PushModel.{bytesPushed}
 use Rattle.serduzhap.specs.Calls.{recordsOf}
 use Rattle.serduzhap.specs.declared.MessageResult.the-variants as M
 use Rattle.serduzhap.proofs.FaultWritten.{recordAt}

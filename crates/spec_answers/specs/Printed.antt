@@ -1,30 +1,11 @@
 -- What `namecheck` prints: from the bytes of standard input to the bytes of standard output.
-use Prim.Native.Nat.{ℕ, zero, suc, _+_, _/_, _%_}
-use Prim.Native.String.{String}
-use mathlib.Core.Bool.{true, false}
+use Prim.Native.Nat.{ℕ}
 use mathlib.Core.List.{List, [], _∷_, _++_}
-use lib.Dec.{ltb}
-use Rattle.spec_text.specs.Bytes.{Bytes, bytes}
+use Rattle.spec_text.specs.Bytes.{Bytes}
+use Rattle.spec_text.specs.Writing.{decimalOf, lineWith}
 use Rattle.spec_text.specs.Reading.{Reading, tree, refusal, reading, shortestWork}
 use Rattle.spec_faults.specs.Faults.{Fault, faults, messageOf}
 use Rattle.spec_answers.specs.Answers.{ReportAnswer, written, refused, reported}
-
--- a number in decimal: at most so many digits
-abbrev pub digits : ℕ → ℕ → Bytes
-digits zero n = []
-digits (suc k) n = elim (ltb n 10) [ true ↦ (48 + n) ∷ [] | false ↦ digits k (n / 10) ++ ((48 + n % 10) ∷ []) ]
-
--- a 32-bit number has at most ten
-abbrev pub decimalOf : ℕ → Bytes
-decimalOf n = digits 10 n
-
--- fields with a tab before each, and LF
-abbrev pub tabbed : List Bytes → Bytes
-tabbed [] = 10 ∷ []
-tabbed (f ∷ fs) = 9 ∷ (f ++ tabbed fs)
-
-abbrev pub lineWith : String → List Bytes → Bytes
-lineWith w fs = bytes w ++ tabbed fs
 
 -- "`fault|9|0|7|Undefined function: prnt` and `faults|1`: kind, start, end, message; then the count"
 abbrev pub faultLine : Fault → Bytes

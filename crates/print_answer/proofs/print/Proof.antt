@@ -1,8 +1,8 @@
 -- Written: the lines of the records, and the count after them. Refused: one line. By what `report` answers, each is what is printed.
 use mathlib.Core.List.{[], _∷_}
 use borrow.Author.Needs.{needs}
-use Rattle.spec_answers.specs.Printed.{decimalOf, lineWith}
-use Rattle.report_messages.proofs.Pushed.{push-more}
+use Rattle.spec_text.specs.Writing.{decimalOf, lineWith}
+use Rattle.write_bytes.proofs.Pushed.{push-more}
 use Rattle.print_lines.specs.LinesModel.{recordLines}
 use Rattle.print_answer.proofs.Reported.{print-written, print-refused}
 use Rattle.print_answer.proofs.print.Statement.{statement}

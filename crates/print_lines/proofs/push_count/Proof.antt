@@ -1,8 +1,8 @@
 -- The word, the count, and LF.
 use mathlib.Core.List.{[], _∷_, _++_}
 use Rattle.spec_text.specs.Bytes.{Bytes, bytes}
-use Rattle.spec_answers.specs.Printed.{decimalOf}
-use Rattle.report_messages.proofs.Pushed.{push-more}
+use Rattle.spec_text.specs.Writing.{decimalOf}
+use Rattle.write_bytes.proofs.Pushed.{push-more}
 use borrow.Author.Needs.{needs}
 use Rattle.print_lines.proofs.push_count.Statement.{statement}
 use Rattle.print_lines.proofs.push_count.Tie as tie

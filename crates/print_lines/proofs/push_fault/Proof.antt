@@ -1,9 +1,9 @@
 -- The word, three numbers, the message, and LF.
 use mathlib.Core.List.{[], _∷_, _++_}
 use Rattle.spec_text.specs.Bytes.{Bytes, bytes}
-use Rattle.spec_answers.specs.Printed.{decimalOf}
+use Rattle.spec_text.specs.Writing.{decimalOf}
 use Rattle.report_messages.specs.MessagesModel.{recordMessage}
-use Rattle.report_messages.proofs.Pushed.{push-more}
+use Rattle.write_bytes.proofs.Pushed.{push-more}
 use borrow.Author.Needs.{needs}
 use Rattle.print_lines.proofs.push_fault.Statement.{statement}
 use Rattle.print_lines.proofs.push_fault.Tie as tie

@@ -5,8 +5,8 @@ use mathlib.Core.Path.{_≡_, ap, subst, _∙_}
 use lib.ListN.{length}
 use borrow.Author.Needs.{needs}
 use Rattle.report_records.specs.declared.Record.{Record}
-use Rattle.report_messages.specs.MessagesModel.{Pushes}
-use Rattle.report_messages.proofs.Pushed.{length-pushed, push-none, push-more}
+use Rattle.write_bytes.specs.PushModel.{Pushes}
+use Rattle.write_bytes.proofs.Pushed.{length-pushed, push-none, push-more}
 use Rattle.print_lines.specs.LinesModel.{recordIn, recordLine, recordLines}
 use Rattle.print_lines.proofs.Lines.{lines-more}
 use Rattle.print_lines.proofs.push_faults.Statement.{statement}

@@ -1,7 +1,7 @@
 -- One arm for each kind: its words round the two names. Any other kind has no message.
 use borrow.Author.Needs.{needs}
 use Rattle.spec_text.specs.Bytes.{partOf}
-use Rattle.report_messages.proofs.Pushed.{push-none}
+use Rattle.write_bytes.proofs.Pushed.{push-none}
 use Rattle.report_messages.proofs.Lengths.{message-other}
 use Rattle.report_messages.proofs.push_message.Statement.{statement}
 use Rattle.report_messages.proofs.push_message.Tie as tie

@@ -1,7 +1,7 @@
 -- Five pushes, one after the other.
 use mathlib.Core.List.{_++_}
 use borrow.Author.Needs.{needs}
-use Rattle.report_messages.proofs.Pushed.{push-more}
+use Rattle.write_bytes.proofs.Pushed.{push-more}
 use Rattle.report_messages.proofs.round.Statement.{statement}
 use Rattle.report_messages.proofs.round.Tie as tie
 

@@ -8,10 +8,10 @@ use lib.Seq.{drop-cons}
 use lib.ListN.{length, getD, drop, length-set, drop-of-length-le}
 use mathlib.Core.List.{_∷_}
 use borrow.Author.Needs.{needs}
-use Rattle.report_messages.specs.MessagesModel.{bytesPushed, pushedTo}
-use Rattle.report_messages.proofs.Pushed.{pushed-none, to-none, pushed-full, to-full, pushed-one, to-one}
-use Rattle.report_messages.proofs.push.Statement.{statement}
-use Rattle.report_messages.proofs.push.Tie as tie
+use Rattle.write_bytes.specs.PushModel.{bytesPushed, pushedTo}
+use Rattle.write_bytes.proofs.Pushed.{pushed-none, to-none, pushed-full, to-full, pushed-one, to-one}
+use Rattle.write_bytes.proofs.push.Statement.{statement}
+use Rattle.write_bytes.proofs.push.Tie as tie
 
 abbrev Inv-loop : tie.InvT-loop
 Inv-loop out₀ at bytes i₀ to₀ out i to =

@@ -5,16 +5,16 @@ use mathlib.Core.List.{[], _∷_}
 use borrow.Author.Needs.{needs}
 use borrow.Fn.Kinds.{In}
 use borrow.Fn.PlainCycle.{Measures, is, falls, and}
-use Rattle.spec_answers.specs.Printed.{digits}
-use Rattle.report_messages.proofs.Pushed.{push-none, push-more}
-use Rattle.print_lines.proofs.Digits.{digits-none, digits-last, digits-more}
-use Rattle.print_lines.proofs.push_digits.Reads as push-digits
-use Rattle.print_lines.proofs.push_digits.Kinds as push-digits-kinds
+use Rattle.spec_text.specs.Writing.{digits}
+use Rattle.write_bytes.proofs.Pushed.{push-none, push-more}
+use Rattle.write_bytes.proofs.Digits.{digits-none, digits-last, digits-more}
+use Rattle.write_bytes.proofs.push_digits.Reads as push-digits
+use Rattle.write_bytes.proofs.push_digits.Kinds as push-digits-kinds
 use Rattle.print_lines.proofs.+push_digits.Lts-push_digits as lts
-use Rattle.print_lines.proofs.narrow.Reads as narrow-reads
-use Rattle.print_lines.proofs.push_byte.Reads as push-byte-reads
+use Rattle.write_bytes.proofs.narrow.Reads as narrow-reads
+use Rattle.write_bytes.proofs.push_byte.Reads as push-byte-reads
 use Rattle.print_lines.proofs.+push_digits.{statement}
 use Rattle.print_lines.proofs.+push_digits.Tie.{close}
 
 abbrev μ-push-digits : Measures 1 push-digits-kinds.ps ℕ
 μ-push-digits κs a = a .1 .1 .0

@@ -1,10 +1,10 @@
 -- A tab, then the digits.
 use mathlib.Core.List.{[], _∷_}
-use Rattle.spec_answers.specs.Printed.{decimalOf}
-use Rattle.report_messages.proofs.Pushed.{push-more}
+use Rattle.spec_text.specs.Writing.{decimalOf}
+use Rattle.write_bytes.proofs.Pushed.{push-more}
 use borrow.Author.Needs.{needs}
-use Rattle.print_lines.proofs.push_number.Statement.{statement}
-use Rattle.print_lines.proofs.push_number.Tie as tie
+use Rattle.write_bytes.proofs.push_number.Statement.{statement}
+use Rattle.write_bytes.proofs.push_number.Tie as tie
 
 slice-aggregate-push : tie.Need-slice-aggregate-push
 slice-aggregate-push c = search needs

@@ -4,7 +4,7 @@ use native.Mathlib.Omega.{arith}
 use mathlib.Core.Path.{_≡_, ap, _∙_}
 use mathlib.Core.List.{[], _∷_, _++_}
 use borrow.Author.Tests.{lt-ltb, le-ltb}
-use Rattle.spec_answers.specs.Printed.{digits}
+use Rattle.spec_text.specs.Writing.{digits}
 
 -- no digit is left
 pub digits-none : (k n : ℕ) → k ≡ 0 → digits k n ≡ []

@@ -1,4 +1,4 @@
--- Bytes that are bytesPushed one part after the other are bytesPushed at once. One byte is one element set; all else is by induction on the bytes.
+-- Bytes that are pushed one part after the other are pushed at once. One byte is one element set; all else is by induction on the bytes.
 use Prim.Native.Nat.{ℕ, suc, _+_, _-_, _≤_, _<_}
 use native.Mathlib.Nat.{add-zero}
 use native.Mathlib.Numerals.{add-one}
@@ -10,7 +10,7 @@ use lib.Dec.{ltb}
 use lib.ListN.{length, take, drop, set, length-set, take-append-drop}
 use lib.Seq.{take-all, take-nil, take-suc-set, take-append-seam, drop-set-lt}
 use borrow.Author.Tests.{ltb-true, ltb-false}
-use Rattle.report_messages.specs.MessagesModel.{bytesPushed, pushedTo, Pushes}
+use Rattle.write_bytes.specs.PushModel.{bytesPushed, pushedTo, Pushes}
 
 -- ---- nothing, no room, one byte
 module _ (old : List ℕ) (at : ℕ) where
@@ -53,7 +53,7 @@ module _ (old : List ℕ) (at : ℕ) where
     unfolding pushedTo
     to-one = rw less (omega arith)
 
--- ---- by induction on what is bytesPushed: a relation of the buffer and the offset before, the bytes, and the buffer and the offset after
+-- ---- by induction on what is pushed: a relation of the buffer and the offset before, the bytes, and the buffer and the offset after
 module _ (P : List ℕ → ℕ → List ℕ → List ℕ → ℕ → Type 0)
     (nothing : (old : List ℕ) (at : ℕ) → P old at [] old at)
     (full : (old : List ℕ) (at : ℕ) (new : List ℕ) → length old ≤ at → P old at new old at)
@@ -77,7 +77,7 @@ length-pushed =
     by-bytes (λ old at new out to. length out ≡ length old) (λ old at. refl) (λ old at new h. refl)
     (λ old at b new out to h e. e ∙ length-set old at b)
 
--- bytesPushed in two parts
+-- pushed in two parts
 module _ (more : List ℕ) where
   pub pushed-more : (old : List ℕ) (at : ℕ) (new : List ℕ) → bytesPushed (bytesPushed old at new) (pushedTo old at new) more ≡ bytesPushed old at (new ++ more)
   pushed-more =

@@ -1,0 +1,2 @@
+-- Bytes pushed to a buffer.
+pub mod PushModel
