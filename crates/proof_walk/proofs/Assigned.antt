@@ -14,7 +14,7 @@ use Rattle.spec_text.specs.Tree.{Line, Expr, Exprs, Stmt, Stmts, var, node, acc
 use Rattle.spec_faults.specs.Rust.{collect-locals, collect-locals-of, collect-locals-from-target, collect-locals-from-targets}
 use Rattle.spec_faults.proofs.Lists.{mem-append, any-append, All, none, also, all-append, all-map}
 use Rattle.spec_faults.proofs.ListingWalk.{State, assigning, afterT, afterTs, afterS, afterSs}
-use Rattle.walk_own_names.specs.OwnNamesModel.{never}
+use Rattle.work_marks.specs.MarksModel.{never}
 use Rattle.proof_walk.specs.Notes.{Note, note, notesT, notesTs, notesS, notesSs, notesD, noteOf, assignedBy}
 
 -- ---- a def's own names are the locals that the Rust gathers

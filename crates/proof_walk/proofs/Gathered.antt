@@ -14,7 +14,8 @@ use Rattle.work_rows.specs.Layout.{kindAt, numberAt, afterRow}
 use Rattle.work_rows.specs.Rows.{Row, row, rowsE, rowsEs, rowsS, rowsSs}
 use Rattle.work_rows.proofs.Lengths.{sized-e, sized-s, sized-ss}
 use Rattle.work_rows.proofs.Loops.{rows-end}
-use Rattle.walk_own_names.specs.OwnNamesModel.{never, noted, rowNoted, nextNoted, allNoted}
+use Rattle.walk_own_names.specs.OwnNamesModel.{noted, rowNoted, nextNoted, allNoted}
+use Rattle.work_marks.specs.MarksModel.{never}
 use Rattle.walk_own_names.proofs.Ways.{row-def, row-class, row-for, row-var, row-none, next-past, next-child, next-after, all-more}
 use Rattle.read_row.specs.Worded.{Some, NodeWord, lit, un, bin, list, set, treeset, dict, AccessWord, index, get, SimpleWord, break, continue, pass, return, expr, BlockWord, elif, while, WordedE, WordedEs, WordedS, WordedSs}
 use Rattle.proof_walk.specs.Table.{Table, Here}

@@ -17,13 +17,12 @@ use Rattle.spec_faults.proofs.Deduped.{seenAfter}
 use Rattle.work_rows.specs.Layout.{kindAt, afterRow}
 use Rattle.work_rows.specs.Rows.{Row, row, rowsE, rowsEs, rowsAs, rowsS, rowsSs, rowsMs}
 use Rattle.work_rows.proofs.Lengths.{sized-e, sized-s, sized-ss, sized-ms}
-use Rattle.work_marks.specs.MarksModel.{stampAt, putSlot}
+use Rattle.work_marks.specs.MarksModel.{stampAt, putSlot, never}
 use Rattle.work_rows.proofs.Loops.{rows-end}
 use Rattle.work_marks.proofs.Writes.{raised-block-stamp}
 use Rattle.walk_scopes.specs.ScopesModel.{aDef, aMethod, module′, pushed, defined}
 use Rattle.walk_scopes.specs.declared.ScopeStack.{ScopeStack}
 use Rattle.walk_scopes.proofs.Define.{defined-block}
-use Rattle.walk_own_names.specs.OwnNamesModel.{never}
 use Rattle.read_row.specs.Worded.{Somes, WordedE, WordedEs, WordedAs, WordedS, WordedSs, WordedMs}
 use Rattle.walk_blocks.specs.BlocksModel.{opened, reopened}
 use Rattle.walk_tree.specs.WalkModel.{nextTarget, targetAt, walkExpr, walkStmt, walkLine}

@@ -5,7 +5,7 @@ use mathlib.Core.List.{List, [], _∷_, _++_, map}
 use lib.Dec.{leb}
 use Rattle.spec_text.specs.Bytes.{Bytes, Part, same, any}
 use Rattle.spec_text.specs.Tree.{Line, Expr, Exprs, Stmt, Stmts, var, node, access, tuple, call, lambda, enil, econs, simple, assign, block, choice, for, def, class, snil, scons, lenE, lenS, lenSs}
-use Rattle.walk_own_names.specs.OwnNamesModel.{never}
+use Rattle.work_marks.specs.MarksModel.{never}
 
 pub record Note : Type 0 where
   pub name : Part

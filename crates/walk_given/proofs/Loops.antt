@@ -1,29 +1,25 @@
 -- A turn and the end of each loop: over the rows that are cleared, over the table of the built-in names, and over the `global` lines. What
 -- is left to do, done to the buffer of the next turn, gives what it gives now.
-use Prim.Native.Nat.{ℕ, suc, _+_, _-_, _%_, _≤_, _<_}
+use Prim.Native.Nat.{ℕ, suc, _+_, _-_, _≤_, _<_}
 use native.Mathlib.Omega.{arith}
 use mathlib.Core.Path.{_≡_, sym, ap, _∙_}
 use mathlib.Core.List.{List}
 use lib.ListN.{length, getD, take, drop, drop-of-length-le}
 use Rattle.spec_text.specs.Bytes.{Bytes}
-use Rattle.work_rows.specs.Layout.{put, headBase, numberAt}
+use Rattle.work_rows.specs.Layout.{numberAt}
 use Rattle.read_names.specs.ChainsModel.{lookup}
 use Rattle.walk_builtins.specs.Table.{cutBy}
 use Rattle.walk_builtins.proofs.Search.{cut-turn}
-use Rattle.work_marks.specs.MarksModel.{putStamp}
+use Rattle.work_marks.specs.MarksModel.{forgotten}
 use Rattle.walk_scopes.specs.ScopesModel.{defined}
 use Rattle.walk_scopes.specs.declared.ScopeStack.{ScopeStack}
 use Rattle.walk_given.specs.GivenModel.{fresh, given, globalsFrom}
 
--- ---- n rows are cleared, and i of them are; x is the number that has row i's mark and slot
+-- ---- n rows are cleared, and i of them are
 module _ (n i : ℕ) (w : List ℕ) where
-  pub fresh-more : (x : ℕ) (v z : List ℕ) → i < n → x ≡ getD w (headBase + i) 0 → v ≡ put w (headBase + i) (x % 8_192) → z ≡ putStamp v i 0
-      → fresh (n - (i + 1)) (i + 1) z ≡ fresh (n - i) i w
+  pub fresh-more : (z : List ℕ) → i < n → z ≡ forgotten w i → fresh (n - (i + 1)) (i + 1) z ≡ fresh (n - i) i w
   unfolding fresh
-  fresh-more x v z l p q r =
-      let e : n - i ≡ suc (n - (i + 1)) = omega arith in
-      ap (fresh (n - (i + 1)) (i + 1)) (r ∙ ap (λ y. putStamp y i 0) (q ∙ ap (λ y. put w (headBase + i) (y % 8_192)) p))
-      ∙ sym (ap (λ k. fresh k i w) e)
+  fresh-more z l p = let e : n - i ≡ suc (n - (i + 1)) = omega arith in ap (fresh (n - (i + 1)) (i + 1)) p ∙ sym (ap (λ k. fresh k i w) e)
 
   pub fresh-end : n ≤ i → fresh (n - i) i w ≡ w
   unfolding fresh

@@ -1,19 +1,18 @@
 -- What the walk begins with: no mark, no slot and no stamp; then the given names are bound in the module.
-use Prim.Native.Nat.{ℕ, zero, suc, _+_, _%_}
+use Prim.Native.Nat.{ℕ, zero, suc, _+_}
 use mathlib.Core.List.{List, [], _∷_}
-use lib.ListN.{getD}
 use Rattle.spec_text.specs.Bytes.{Bytes}
 use Rattle.walk_builtins.specs.Table.{names}
-use Rattle.work_rows.specs.Layout.{put, headBase, numberAt}
+use Rattle.work_rows.specs.Layout.{numberAt}
 use Rattle.read_names.specs.ChainsModel.{lookup}
-use Rattle.work_marks.specs.MarksModel.{putStamp}
+use Rattle.work_marks.specs.MarksModel.{forgotten}
 use Rattle.walk_scopes.specs.ScopesModel.{defined}
 use Rattle.walk_scopes.specs.declared.ScopeStack.{ScopeStack}
 
 -- no mark, no slot, no stamp: of n rows from row i on
 unfoldable pub fresh : ℕ → ℕ → List ℕ → List ℕ
 fresh zero i w = w
-fresh (suc n) i w = fresh n (i + 1) (putStamp (put w (headBase + i) (getD w (headBase + i) 0 % 8_192)) i 0)
+fresh (suc n) i w = fresh n (i + 1) (forgotten w i)
 
 -- the given names: built in, and those of n `global` lines from row i on
 unfoldable pub given : Bytes → ScopeStack → List Bytes → List ℕ → List ℕ

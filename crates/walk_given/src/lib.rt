@@ -1,8 +1,5 @@
 // What the walk begins with: all marks, slots and stamps are forgotten, and the given names are bound in the module.
 use walk_scopes::ScopeStack;
-use work_marks::MARKS;
-use work_rows::DUE_BASE;
-use work_rows::HEAD_BASE;
 ghost use mathlib.Core.Path.{_≡_};
 ghost use Prim.Native.Nat.{_<_, _≤_};
 ghost use Rattle.walk_builtins.specs.Table.{names, Rule};
@@ -15,9 +12,7 @@ fn clear(work: &mut [u32], rows: usize)
 {
     let mut i = 0;
     while i < rows {
-        let head = work_rows::get(work, HEAD_BASE + i) % MARKS;
-        work_rows::put(work, HEAD_BASE + i, head);
-        work_rows::put(work, DUE_BASE + i, 0);
+        work_marks::forget(work, i);
         i += 1;
     }
 }

@@ -1,12 +1,12 @@
 -- The definitions by their tests: the kind of a fault, the way of a fault of a kind that blames a lambda, and the ways of a read.
-use Prim.Native.Nat.{ℕ, _+_, _/_, _%_, _≤_, _<_}
+use Prim.Native.Nat.{ℕ, _+_, _≤_, _<_}
 use mathlib.Core.Path.{_≡_, sym, ap, _∙_}
 use mathlib.Core.Bool.{Bool, true, false, cond}
 use mathlib.Core.List.{List}
 use lib.Dec.{eqb, ltb}
 use borrow.Author.Tests.{lt-ltb, le-ltb, eq-eqb, ne-eqb}
 use Rattle.spec_faults.specs.Faults.{capture}
-use Rattle.work_marks.specs.MarksModel.{lambdaEnd, raisedLambda, putSlot, stampAt}
+use Rattle.work_marks.specs.MarksModel.{lambdaEnd, raisedLambda, putSlot, ownerAt, fromAt}
 use Rattle.walk_scopes.specs.ScopesModel.{aDef, module′, isDefined}
 use Rattle.walk_scopes.specs.declared.ScopeStack.{ScopeStack}
 use Rattle.walk_judge.specs.JudgeModel.{unboundKind, undefinedKind, faulted, isOwn, readOf}
@@ -44,9 +44,9 @@ module _ (s : ScopeStack) (a i k : ℕ) (w : List ℕ) where
   unfolding faulted
   faulted-plain e = rw e
 
--- ---- a name is an own one, by its stamp t
+-- ---- a name is an own one, by the def t that has it
 module _ (s : ScopeStack) (a : ℕ) (w : List ℕ) where
-  pub own-by : s .home ≡ aDef → (t : ℕ) → t ≡ stampAt w a → (b : Bool) → eqb (t / 8_192) (s .block + 1) ≡ b → isOwn s w a ≡ b
+  pub own-by : s .home ≡ aDef → (t : ℕ) → t ≡ ownerAt w a → (b : Bool) → eqb t (s .block + 1) ≡ b → isOwn s w a ≡ b
   own-by h t e b q = rw (eq-eqb (s .home) aDef h, ← e) q
 
   pub own-not : (s .home ≡ aDef → ⊥) → isOwn s w a ≡ false
@@ -64,16 +64,16 @@ module _ (s : ScopeStack) (called : Bool) (a i : ℕ) (w : List ℕ) where
       cond own (cond early (faulted s a i (unboundKind s called) w) w) (cond seen w (faulted s a i (undefinedKind s called) w))
 
   module _ (l : lambdaEnd w a ≤ i) where
-    read-by : readOf s called a i w ≡ read-rest (isOwn s w a) (ltb i (stampAt w a % 8_192)) (isDefined w a i)
+    read-by : readOf s called a i w ≡ read-rest (isOwn s w a) (ltb i (fromAt w a)) (isDefined w a i)
     unfolding readOf
     read-by = rw (le-ltb i (lambdaEnd w a) l)
 
-    pub read-unbound : isOwn s w a ≡ true → i < stampAt w a % 8_192 → (k : ℕ) (z : List ℕ) → k ≡ unboundKind s called → z ≡ faulted s a i k w
+    pub read-unbound : isOwn s w a ≡ true → i < fromAt w a → (k : ℕ) (z : List ℕ) → k ≡ unboundKind s called → z ≡ faulted s a i k w
         → z ≡ readOf s called a i w
-    read-unbound o m k z p q = q ∙ (ap (λ y. faulted s a i y w) p ∙ sym (read-by ∙ rw (o, lt-ltb i (stampAt w a % 8_192) m)))
+    read-unbound o m k z p q = q ∙ (ap (λ y. faulted s a i y w) p ∙ sym (read-by ∙ rw (o, lt-ltb i (fromAt w a) m)))
 
-    pub read-own : isOwn s w a ≡ true → stampAt w a % 8_192 ≤ i → w ≡ readOf s called a i w
-    read-own o m = sym (read-by ∙ rw (o, le-ltb i (stampAt w a % 8_192) m))
+    pub read-own : isOwn s w a ≡ true → fromAt w a ≤ i → w ≡ readOf s called a i w
+    read-own o m = sym (read-by ∙ rw (o, le-ltb i (fromAt w a) m))
 
     pub read-in-view : isOwn s w a ≡ false → isDefined w a i ≡ true → w ≡ readOf s called a i w
     read-in-view o m = sym (read-by ∙ rw (o, m))

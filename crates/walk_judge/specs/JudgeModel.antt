@@ -1,10 +1,10 @@
 -- What a read does to the work buffer: the kind of its fault goes to its row's slot.
-use Prim.Native.Nat.{ℕ, _+_, _/_, _%_}
+use Prim.Native.Nat.{ℕ, _+_}
 use mathlib.Core.Bool.{Bool, cond, _&&_}
 use mathlib.Core.List.{List}
 use lib.Dec.{eqb, ltb}
 use Rattle.spec_faults.specs.Faults.{capture}
-use Rattle.work_marks.specs.MarksModel.{lambdaEnd, raisedLambda, putSlot, stampAt}
+use Rattle.work_marks.specs.MarksModel.{lambdaEnd, raisedLambda, putSlot, ownerAt, fromAt}
 use Rattle.walk_scopes.specs.ScopesModel.{aDef, module′, isDefined}
 use Rattle.walk_scopes.specs.declared.ScopeStack.{ScopeStack}
 
@@ -21,10 +21,10 @@ unfoldable pub faulted : ScopeStack → ℕ → ℕ → ℕ → List ℕ → Lis
 faulted s a i k w = cond (capture k) (raisedLambda (putSlot w i k) a (s .outer)) (putSlot w i k)
 
 abbrev pub isOwn : ScopeStack → List ℕ → ℕ → Bool
-isOwn s w a = eqb (s .home) aDef && eqb (stampAt w a / 8_192) (s .block + 1)
+isOwn s w a = eqb (s .home) aDef && eqb (ownerAt w a) (s .block + 1)
 
 unfoldable pub readOf : ScopeStack → Bool → ℕ → ℕ → List ℕ → List ℕ
 readOf s called a i w =
     cond (ltb i (lambdaEnd w a)) w
-    (cond (isOwn s w a) (cond (ltb i (stampAt w a % 8_192)) (faulted s a i (unboundKind s called) w) w)
+    (cond (isOwn s w a) (cond (ltb i (fromAt w a)) (faulted s a i (unboundKind s called) w) w)
     (cond (isDefined w a i) w (faulted s a i (undefinedKind s called) w)))

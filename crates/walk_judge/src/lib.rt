@@ -3,7 +3,6 @@ use spec_faults::fault_kind;
 use walk_scopes::HOME_DEF;
 use walk_scopes::HOME_MODULE;
 use walk_scopes::ScopeStack;
-use work_marks::MARKS;
 ghost use mathlib.Core.Path.{_≡_};
 ghost use Prim.Native.Nat.{_<_};
 ghost use Rattle.spec_faults.specs.Faults.{lacksSelf};
@@ -59,9 +58,9 @@ pub fn judge_read(work: &mut [u32], s: ScopeStack, called: bool, name: usize, i:
     if i < work_marks::lambda_end(work, name) {
         return;
     }
-    let stamp = work_marks::stamp(work, name);
-    if s.home == HOME_DEF && stamp / MARKS == s.block + 1 {
-        if i < stamp % MARKS {
+    let owner = work_marks::owner(work, name);
+    if s.home == HOME_DEF && owner == s.block + 1 {
+        if i < work_marks::assigned_from(work, name) {
             fault(work, s, name, i, unbound_kind(s, called));
         }
         return;

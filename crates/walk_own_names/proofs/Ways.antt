@@ -1,6 +1,6 @@
 -- The definitions by their tests: a stamp that stays or is written, what a row binds by its kind, the next row by its kind, and a turn of
 -- the loop. Each next row lies after the row, so the loop's laws hold.
-use Prim.Native.Nat.{ℕ, _+_, _*_, _/_, _%_, _≤_, _<_}
+use Prim.Native.Nat.{ℕ, _+_, _≤_, _<_}
 use native.Mathlib.Omega.{arith}
 use mathlib.Core.Path.{_≡_, ap}
 use mathlib.Core.Bool.{Bool, true, false, cond, _&&_, _||_}
@@ -9,9 +9,9 @@ use mathlib.Core.Logic.{_⊎_, inl, inr}
 use lib.Dec.{eqb, leb}
 use borrow.Author.Tests.{lt-ltb, le-ltb, eq-eqb, ne-eqb, le-leb, lt-leb}
 use Rattle.work_rows.specs.Layout.{rowsMost, kindAt, numberAt, afterRow}
-use Rattle.work_marks.specs.MarksModel.{stampAt, putStamp}
+use Rattle.work_marks.specs.MarksModel.{ownerAt, fromAt, putOwn, never}
 use Rattle.work_rows.proofs.Loops.{rows-turn}
-use Rattle.walk_own_names.specs.OwnNamesModel.{never, noted, rowNoted, nextNoted, allNoted}
+use Rattle.walk_own_names.specs.OwnNamesModel.{noted, rowNoted, nextNoted, allNoted}
 
 -- ---- a name is stamped
 module _ (b a from : ℕ) (w : List ℕ) where
@@ -20,17 +20,17 @@ module _ (b a from : ℕ) (w : List ℕ) where
   noted-none l = rw (le-ltb a rowsMost l)
 
   module _ (l : a < rowsMost) where
-    pub noted-stays : stampAt w a / 8_192 ≡ b + 1 → stampAt w a % 8_192 ≤ from → noted b a from w ≡ w
+    pub noted-stays : ownerAt w a ≡ b + 1 → fromAt w a ≤ from → noted b a from w ≡ w
     unfolding noted
-    noted-stays e m = rw (lt-ltb a rowsMost l, eq-eqb (stampAt w a / 8_192) (b + 1) e, le-leb (stampAt w a % 8_192) from m)
+    noted-stays e m = rw (lt-ltb a rowsMost l, eq-eqb (ownerAt w a) (b + 1) e, le-leb (fromAt w a) from m)
 
-    pub noted-first : stampAt w a / 8_192 ≡ b + 1 → from < stampAt w a % 8_192 → noted b a from w ≡ putStamp w a (8_192 * (b + 1) + from % 8_192)
+    pub noted-first : ownerAt w a ≡ b + 1 → from < fromAt w a → noted b a from w ≡ putOwn w a b from
     unfolding noted
-    noted-first e m = rw (lt-ltb a rowsMost l, eq-eqb (stampAt w a / 8_192) (b + 1) e, lt-leb (stampAt w a % 8_192) from m)
+    noted-first e m = rw (lt-ltb a rowsMost l, eq-eqb (ownerAt w a) (b + 1) e, lt-leb (fromAt w a) from m)
 
-    pub noted-new : (stampAt w a / 8_192 ≡ b + 1 → ⊥) → noted b a from w ≡ putStamp w a (8_192 * (b + 1) + from % 8_192)
+    pub noted-new : (ownerAt w a ≡ b + 1 → ⊥) → noted b a from w ≡ putOwn w a b from
     unfolding noted
-    noted-new d = rw (lt-ltb a rowsMost l, ne-eqb (stampAt w a / 8_192) (b + 1) d)
+    noted-new d = rw (lt-ltb a rowsMost l, ne-eqb (ownerAt w a) (b + 1) d)
 
 -- ---- what row i binds, by its kind
 module _ (b i : ℕ) (w : List ℕ) where

@@ -1,22 +1,18 @@
 -- A def's own names, gathered over the rows of its body: each is stamped with the def, and with the first row from which it is assigned.
 -- Nested defs and classes are stepped over, and so are all expressions but targets.
-use Prim.Native.Nat.{ℕ, _+_, _*_, _/_, _%_}
+use Prim.Native.Nat.{ℕ, _+_}
 use mathlib.Core.Bool.{cond, _&&_, _||_}
 use mathlib.Core.List.{List}
 use lib.Dec.{eqb, leb, ltb}
 use Rattle.work_rows.specs.Layout.{rowsMost, kindAt, numberAt, afterRow}
-use Rattle.work_marks.specs.MarksModel.{stampAt, putStamp}
+use Rattle.work_marks.specs.MarksModel.{ownerAt, fromAt, putOwn, never}
 use Rattle.work_rows.specs.LoopsModel.{rowsTo}
-
--- a row that no read is at or after: bound, and never assigned
-abbrev pub never : ℕ
-never = 8_191
 
 -- the def at row b has the name a of its own, assigned from a row on
 unfoldable pub noted : ℕ → ℕ → ℕ → List ℕ → List ℕ
 noted b a from w =
     cond (ltb a rowsMost)
-    (cond (eqb (stampAt w a / 8_192) (b + 1) && leb (stampAt w a % 8_192) from) w (putStamp w a (8_192 * (b + 1) + from % 8_192)))
+    (cond (eqb (ownerAt w a) (b + 1) && leb (fromAt w a) from) w (putOwn w a b from))
     w
 
 -- what row i binds: 5 def, 13 class, 10 for, 17 a `var` that is a target

@@ -1,13 +1,10 @@
 // Gathers a def's own names: each is stamped with the def, and with the first row from which it is assigned.
 use spec_text::line_kind;
-use work_marks::MARKS;
+use work_marks::NEVER;
 use work_rows::ROWS_MOST;
 ghost use mathlib.Core.Path.{_≡_};
 ghost use Prim.Native.Nat.{_<_, _≤_};
 ghost use Rattle.walk_own_names.specs.OwnNamesModel.{noted, rowNoted, nextNoted, allNoted};
-
-// A row that no read is at or after.
-const NEVER: usize = 8191;
 
 // The def at row b has the name of its own, assigned from a row on.
 pub fn note_name(work: &mut [u32], b: usize, name: usize, from: usize)
@@ -15,13 +12,12 @@ pub fn note_name(work: &mut [u32], b: usize, name: usize, from: usize)
     ensures { λ _. ⌜ now (work .exit) ≡ noted b name from (now (work .entry)) ⌝ }
 {
     if name < ROWS_MOST {
-        let stamp = work_marks::stamp(work, name);
-        if stamp / MARKS == b + 1 {
-            if stamp % MARKS <= from {
+        if work_marks::owner(work, name) == b + 1 {
+            if work_marks::assigned_from(work, name) <= from {
                 return;
             }
         }
-        work_marks::put_stamp(work, name, MARKS * (b + 1) + from % MARKS);
+        work_marks::put_own(work, name, b, from);
     }
 }
 

@@ -47,3 +47,21 @@ stampAt w a = getD w (stampBase + a) 0
 
 abbrev pub putStamp : List ℕ → ℕ → ℕ → List ℕ
 putStamp w a v = put w (stampBase + a) v
+
+-- the row of the def that has the name a of its own, and one, or 0; the row from which it is assigned there
+abbrev pub ownerAt : List ℕ → ℕ → ℕ
+ownerAt w a = stampAt w a / 8_192
+
+abbrev pub fromAt : List ℕ → ℕ → ℕ
+fromAt w a = stampAt w a % 8_192
+
+abbrev pub putOwn : List ℕ → ℕ → ℕ → ℕ → List ℕ
+putOwn w a def from = putStamp w a (8_192 * (def + 1) + from % 8_192)
+
+-- a row that no read is at or after: bound, and never assigned
+abbrev pub never : ℕ
+never = 8_191
+
+-- no mark of a block, no slot, no stamp
+abbrev pub forgotten : List ℕ → ℕ → List ℕ
+forgotten w i = putStamp (put w (headBase + i) (getD w (headBase + i) 0 % 8_192)) i 0

@@ -4,7 +4,7 @@ use work_rows::LINE_KINDS;
 use work_rows::ROWS_MOST;
 ghost use mathlib.Core.Path.{_≡_};
 ghost use Prim.Native.Nat.{_+_, _<_};
-ghost use Rattle.work_marks.specs.MarksModel.{lambdaEnd, blockEnd, slotAt, stampAt, putLambdaEnd, putBlockEnd, putSlot, putStamp, raisedLambda, raisedBlock};
+ghost use Rattle.work_marks.specs.MarksModel.{lambdaEnd, blockEnd, slotAt, stampAt, ownerAt, fromAt, putLambdaEnd, putBlockEnd, putSlot, putStamp, putOwn, forgotten, raisedLambda, raisedBlock};
 
 // Where the stamps stand.
 const STAMP_BASE: usize = 12288;
@@ -12,7 +12,10 @@ const STAMP_BASE: usize = 12288;
 // Below a mark stand the row, or the head of a chain of names; a mark has this many values, and the slot stands above it.
 const ROWS: usize = 131072;
 
-pub const MARKS: usize = 8192;
+const MARKS: usize = 8192;
+
+// A row that no read is at or after: the largest that a stamp holds.
+pub const NEVER: usize = 8191;
 
 const SLOTS: usize = 67108864;
 
@@ -90,17 +93,51 @@ pub fn put_slot(work: &mut [u32], i: usize, kind: usize)
     work_rows::put(work, HEAD_BASE + i, x + SLOTS * (kind % SLOT_KINDS))
 }
 
-// The def that has the name of its own, and the row from which it is assigned there.
-pub fn stamp(work: &[u32], name: usize) -> usize
+// A stamp: the def that has the name of its own, and the row from which it is assigned there.
+fn stamp(work: &[u32], name: usize) -> usize
     requires { ⌜ name < 4294967296 ⌝ }
     ensures { λ r. ⌜ r ≡ stampAt (now (work .entry)) name ⌝ }
 {
     work_rows::get(work, STAMP_BASE + name)
 }
 
-pub fn put_stamp(work: &mut [u32], name: usize, stamp: usize)
+fn put_stamp(work: &mut [u32], name: usize, stamp: usize)
     requires { ⌜ name < 4294967296 ⌝ }
     ensures { λ _. ⌜ now (work .exit) ≡ putStamp (now (work .entry)) name stamp ⌝ }
 {
     work_rows::put(work, STAMP_BASE + name, stamp)
+}
+
+// The row of the def that has the name of its own, and one; 0 where none has.
+pub fn owner(work: &[u32], name: usize) -> usize
+    requires { ⌜ name < 4294967296 ⌝ }
+    ensures { λ r. ⌜ r ≡ ownerAt (now (work .entry)) name ⌝ }
+{
+    stamp(work, name) / MARKS
+}
+
+// The row from which the name is assigned there.
+pub fn assigned_from(work: &[u32], name: usize) -> usize
+    requires { ⌜ name < 4294967296 ⌝ }
+    ensures { λ r. ⌜ r ≡ fromAt (now (work .entry)) name ⌝ }
+{
+    stamp(work, name) % MARKS
+}
+
+// The def at row `def` has the name of its own, assigned from a row on.
+pub fn put_own(work: &mut [u32], name: usize, def: usize, from: usize)
+    requires { ⌜ (name < 4294967296) × (def < 4294967296) ⌝ }
+    ensures { λ _. ⌜ now (work .exit) ≡ putOwn (now (work .entry)) name def from ⌝ }
+{
+    put_stamp(work, name, MARKS * (def + 1) + from % MARKS)
+}
+
+// No mark of a block and no stamp of name i, no fault of row i. The head of a chain of names stays.
+pub fn forget(work: &mut [u32], i: usize)
+    requires { ⌜ i < 4294967296 ⌝ }
+    ensures { λ _. ⌜ now (work .exit) ≡ forgotten (now (work .entry)) i ⌝ }
+{
+    let head = work_rows::get(work, HEAD_BASE + i) % MARKS;
+    work_rows::put(work, HEAD_BASE + i, head);
+    put_stamp(work, i, 0)
 }

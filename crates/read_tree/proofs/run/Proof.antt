@@ -31,7 +31,7 @@ loop-again c =
     let l = t .before .before in
     let a = l .before .before .before .args in (
       k .step .ensures .1 .0,
-      k .turn .kept .1 .0 ∙ l .loop .inv .1,
+      k .step .kept .1 .0 ∙ l .loop .inv .1,
       λ x v.
           subst (λ (m : Machine). Turns (a .text .now) m x) (sym (k .step .ensures .0)) (later _ _ (t .if1 .taken) (l .loop .inv .2 x v)),
     )

@@ -60,10 +60,10 @@ minus-requires c κs = tt
 abbrev K : tie.After-minus → tie.After-children-of
 K c = c .before .before
 
-abbrev L : tie.After-children-of → tie.After-less
+abbrev L : tie.After-children-of → tie.After-one-less
 L c = c .before .before .before .before .before .before
 
-abbrev R : tie.After-less → tie.After-write-row
+abbrev R : tie.After-one-less → tie.After-write-row
 R c = c .before .before .before .before
 
 abbrev E : tie.After-write-row → tie.Else1

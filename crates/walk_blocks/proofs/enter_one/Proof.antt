@@ -17,8 +17,8 @@ owns-requires c κs = search needs
 add-note : tie.Need-add-note
 add-note c = search needs
 
-note-requires : tie.Need-note-requires
-note-requires c κs = search needs
+note-name-requires : tie.Need-note-name-requires
+note-name-requires c κs = search needs
 
 same-length : tie.Need-same-length
 same-length c = search needs
@@ -30,7 +30,7 @@ returns c =
     let o = i .before in
     let d = o .before .before .before in
     let r = d .before .before in
-    one-owned _ _ _ _ _ _ (r .row-of .ensures .0) (d .define .ensures) (sym (o .owns .ensures) ∙ i .if1 .taken) _ (n .note .ensures)
+    one-owned _ _ _ _ _ _ (r .row-of .ensures .0) (d .define .ensures) (sym (o .owns .ensures) ∙ i .if1 .taken) _ (n .note-name .ensures)
 
 same-length-2 : tie.Need-same-length-2
 same-length-2 c = search needs
@@ -50,7 +50,7 @@ enter-one-spec =
     define-requires
     owns-requires
     add-note
-    note-requires
+    note-name-requires
     same-length
     returns
     same-length-2

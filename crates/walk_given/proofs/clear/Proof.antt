@@ -22,29 +22,9 @@ loop-holds c =
     let a = c .before .args in
     (refl, ap (λ n. fresh n 0 (a .work .now)) (sub-zero (a .rows)))
 
-add-get : tie.Need-add-get Inv-loop μ-loop
-add-get c =
+forget-requires : tie.Need-forget-requires Inv-loop μ-loop
+forget-requires c κs =
     omega arith
-
-get-requires : tie.Need-get-requires Inv-loop μ-loop
-get-requires c κs =
-    tt
-
-add-put : tie.Need-add-put Inv-loop μ-loop
-add-put c =
-    omega arith
-
-put-requires : tie.Need-put-requires Inv-loop μ-loop
-put-requires c κs =
-    tt
-
-add-put-2 : tie.Need-add-put-2 Inv-loop μ-loop
-add-put-2 c =
-    omega arith
-
-put-requires-2 : tie.Need-put-requires-2 Inv-loop μ-loop
-put-requires-2 c κs =
-    tt
 
 add-i : tie.Need-add-i Inv-loop μ-loop
 add-i c =
@@ -56,16 +36,11 @@ loop-less c =
 
 loop-again : tie.Need-loop-again Inv-loop μ-loop
 loop-again c =
-    let p = c .before .before in
-    let p₂ = p .before .before .before .before in
-    let g = p₂ .before .before in
-    let l = g .before .before in
+    let f = c .before .before in
+    let l = f .before .before in
     let l₂ = l .before in
-    let a = l₂ .before .before .args in (
-      p .put2 .kept .0 ∙ (p₂ .put .kept .0 ∙ l₂ .loop .inv .0),
-      fresh-more (a .rows) (l₂ .loop .i) (l₂ .loop .work) _ _ _ (l .loop-test .taken) (g .get .ensures .0) (p₂ .put .ensures) (p .put2 .ensures)
-          ∙ l₂ .loop .inv .1,
-    )
+    let a = l₂ .before .before .args in
+    (f .forget .kept .0 ∙ l₂ .loop .inv .0, fresh-more (a .rows) (l₂ .loop .i) (l₂ .loop .work) _ (l .loop-test .taken) (f .forget .ensures) ∙ l₂ .loop .inv .1)
 
 same-length : tie.Need-same-length Inv-loop μ-loop
 same-length c =
@@ -85,12 +60,7 @@ clear-spec =
     Inv-loop
     μ-loop
     loop-holds
-    add-get
-    get-requires
-    add-put
-    put-requires
-    add-put-2
-    put-requires-2
+    forget-requires
     add-i
     loop-less
     loop-again

@@ -20,11 +20,14 @@ returns c =
     let a = c .before .before .before .before .args in
     read-param (a .s) (a .called) (a .name) (a .i) (a .work .now) (omega arith)
 
-stamp-requires : tie.Need-stamp-requires
-stamp-requires c κs = search needs
+owner-requires : tie.Need-owner-requires
+owner-requires c κs = search needs
 
 add-if3 : tie.Need-add-if3
 add-if3 c = search needs
+
+assigned-from-requires : tie.Need-assigned-from-requires
+assigned-from-requires c κs = search needs
 
 unbound-kind-requires : tie.Need-unbound-kind-requires
 unbound-kind-requires c κs = search needs
@@ -38,11 +41,11 @@ same-length-2 c =
 
 returns-2 : tie.Need-returns-2
 returns-2 c =
-    let i = c .before in
+    let i = c .before .before .before in
     let i₂ = i .before .before in
     let s = i₂ .before .before in
     let a = s .before .before .before .before .before .before .args in
-    let own = own-by (a .s) (a .name) (a .work .now) (i₂ .if2 .taken) (s .stamp .result) (s .stamp .ensures) true (i .if3 .taken) in
+    let own = own-by (a .s) (a .name) (a .work .now) (i₂ .if2 .taken) (s .owner .result) (s .owner .ensures) true (i .if3 .taken) in
     ⊎-elim
     (λ v. v .6 ∙ read-unbound (a .s) (a .called) (a .name) (a .i) (a .work .now) (omega arith) own (omega arith) _ _ (v .2 .ensures) (v .3 .ensures))
     (λ v. v .1 ∙ read-own (a .s) (a .called) (a .name) (a .i) (a .work .now) (omega arith) own (omega arith))
@@ -61,7 +64,7 @@ returns-3 c =
     let s = i₂ .before .before in
     let a = s .before .before .before .before .before .before .args in
     read-in-view (a .s) (a .called) (a .name) (a .i) (a .work .now) (omega arith)
-    (⊎-elim (λ v. own-by (a .s) (a .name) (a .work .now) (v .0 .taken) (s .stamp .result) (s .stamp .ensures) false (v .2 .left))
+    (⊎-elim (λ v. own-by (a .s) (a .name) (a .work .now) (v .0 .taken) (s .owner .result) (s .owner .ensures) false (v .2 .left))
     (λ v. own-not (a .s) (a .name) (a .work .now) (v .left)) (i₂ .if2 .came))
     (sym (i .is-defined .ensures) ∙ c .if5 .taken)
 
@@ -84,7 +87,7 @@ returns-4 c =
     let s = i₃ .before .before in
     let a = s .before .before .before .before .before .before .args in
     read-undefined (a .s) (a .called) (a .name) (a .i) (a .work .now) (omega arith)
-    (⊎-elim (λ v. own-by (a .s) (a .name) (a .work .now) (v .0 .taken) (s .stamp .result) (s .stamp .ensures) false (v .2 .left))
+    (⊎-elim (λ v. own-by (a .s) (a .name) (a .work .now) (v .0 .taken) (s .owner .result) (s .owner .ensures) false (v .2 .left))
     (λ v. own-not (a .s) (a .name) (a .work .now) (v .left)) (i₃ .if2 .came))
     (sym (i₂ .is-defined .ensures) ∙ i .if5 .left) _ _ (u .undefined-kind .ensures) (f .fault2 .ensures)
 
@@ -95,8 +98,9 @@ judge-read-spec =
     lambda-end-requires
     same-length
     returns
-    stamp-requires
+    owner-requires
     add-if3
+    assigned-from-requires
     unbound-kind-requires
     fault-requires
     same-length-2

@@ -7,34 +7,28 @@ use Rattle.walk_own_names.proofs.Ways.{noted-none, noted-stays, noted-f
 use Rattle.walk_own_names.proofs.note_name.Statement.{statement}
 use Rattle.walk_own_names.proofs.note_name.Tie as tie
 
-stamp-requires : tie.Need-stamp-requires
-stamp-requires c κs = search needs
+owner-requires : tie.Need-owner-requires
+owner-requires c κs = search needs
 
 add-if2 : tie.Need-add-if2
 add-if2 c = search needs
+
+assigned-from-requires : tie.Need-assigned-from-requires
+assigned-from-requires c κs = search needs
 
 same-length : tie.Need-same-length
 same-length c = search needs
 
 returns : tie.Need-returns
 returns c =
-    let t = c .before in
-    let s = t .before in
-    let o = s .before .before in
-    let a = o .before .before .args in
-    sym (noted-stays (a .b) (a .name) (a .from) (a .work .now) (o .if1 .taken) (omega arith) (omega arith))
+    let f = c .before in
+    let o = f .before .before .before in
+    let t = o .before .before in
+    let a = t .before .before .args in
+    sym (noted-stays (a .b) (a .name) (a .from) (a .work .now) (t .if1 .taken) (omega arith) (omega arith))
 
-add-put-stamp : tie.Need-add-put-stamp
-add-put-stamp c = search needs
-
-mul-put-stamp : tie.Need-mul-put-stamp
-mul-put-stamp c = search needs
-
-add-put-stamp-2 : tie.Need-add-put-stamp-2
-add-put-stamp-2 c = search needs
-
-put-stamp-requires : tie.Need-put-stamp-requires
-put-stamp-requires c κs = search needs
+put-own-requires : tie.Need-put-own-requires
+put-own-requires c κs = search needs
 
 same-length-2 : tie.Need-same-length-2
 same-length-2 c = search needs
@@ -43,14 +37,14 @@ returns-2 : tie.Need-returns-2
 returns-2 c =
     let p = c .before .before in
     let j = p .before .before in
-    let s = j .before in
-    let o = s .before .before in
-    let a = o .before .before .args in
-    p .put-stamp .ensures
+    let o = j .before in
+    let t = o .before .before in
+    let a = t .before .before .args in
+    p .put-own .ensures
     ∙ sym
     (⊎-elim
-    (λ v. noted-first (a .b) (a .name) (a .from) (a .work .now) (o .if1 .taken) (omega arith) (omega arith))
-    (λ v. noted-new (a .b) (a .name) (a .from) (a .work .now) (o .if1 .taken) (λ e. v .left (omega arith)))
+    (λ v. noted-first (a .b) (a .name) (a .from) (a .work .now) (t .if1 .taken) (omega arith) (omega arith))
+    (λ v. noted-new (a .b) (a .name) (a .from) (a .work .now) (t .if1 .taken) (λ e. v .left (omega arith)))
     (j .if2 .came))
 
 returns-3 : tie.Need-returns-3
@@ -59,15 +53,4 @@ returns-3 c = let a = c .before .before .args in sym (noted-none (a .b) (a .name
 pub note-name-spec : {M : Type 1} → statement M
 note-name-spec =
     tie.close
-    (tie.spec
-    stamp-requires
-    add-if2
-    same-length
-    returns
-    add-put-stamp
-    mul-put-stamp
-    add-put-stamp-2
-    put-stamp-requires
-    same-length-2
-    returns-2
-    returns-3)
+    (tie.spec owner-requires add-if2 assigned-from-requires same-length returns put-own-requires same-length-2 returns-2 returns-3)

@@ -62,10 +62,10 @@ use Rattle.walk_tree.proofs.+walk_block+walk_expr+walk_exprs+walk_stmt+
 use Rattle.walk_tree.proofs.walk_targets.Reads as walk-targets
 use Rattle.walk_tree.proofs.walk_targets.Kinds as walk-targets-kinds
 use Rattle.walk_tree.proofs.+walk_block+walk_expr+walk_exprs+walk_stmt+walk_stmts+walk_target+walk_targets.Lts-walk_targets as walk-targets-lts
-use Rattle.walk_blocks.proofs.open.Reads as open-reads
-use Rattle.walk_blocks.proofs.reopen.Reads as reopen-reads
-use Rattle.walk_judge.proofs.read.Reads as read-reads
-use Rattle.work_marks.proofs.after_row.Reads as after-row-reads
+use Rattle.walk_blocks.proofs.enter_block.Reads as enter-block-reads
+use Rattle.walk_blocks.proofs.reenter_block.Reads as reenter-block-reads
+use Rattle.walk_judge.proofs.judge_read.Reads as judge-read-reads
+use Rattle.work_rows.proofs.after_row.Reads as after-row-reads
 use Rattle.work_marks.proofs.put_slot.Reads as put-slot-reads
 use Rattle.work_rows.proofs.kind.Reads as kind-reads
 use Rattle.work_rows.proofs.number.Reads as number-reads
@@ -163,7 +163,7 @@ walk-targets-below t =
 
 -- ---- walk_block
 abbrev walk-block-calls : ℕ → walk-block-lts.Claims
-walk-block-calls t = (open-reads.Asked, open-reads.Learnt, walk-stmts-below t, walk-stmts.Post)
+walk-block-calls t = (enter-block-reads.Asked, enter-block-reads.Learnt, walk-stmts-below t, walk-stmts.Post)
 
 walk-block-open-requires : (t : ℕ) → walk-block-lts.Need-enter-block-requires (walk-block-calls t) (walk-block-at t) walk-block.Post
 walk-block-open-requires t c κs = omega arith
@@ -195,16 +195,16 @@ walk-expr-calls t = (
   kind-reads.Learnt,
   number-reads.Asked,
   number-reads.Learnt,
-  read-reads.Asked,
-  read-reads.Learnt,
+  judge-read-reads.Asked,
+  judge-read-reads.Learnt,
   walk-expr-below t,
   walk-expr.Post,
   walk-exprs-below t,
   walk-exprs.Post,
   push-lambda-reads.Asked,
   push-lambda-reads.Learnt,
-  open-reads.Asked,
-  open-reads.Learnt,
+  enter-block-reads.Asked,
+  enter-block-reads.Learnt,
   walk-stmts-below t,
   walk-stmts.Post,
 )
@@ -284,7 +284,7 @@ walk-expr-walk-exprs-requires-2 t c κs = omega arith
 walk-expr-same-length : (t : ℕ) → walk-expr-lts.Need-same-length (walk-expr-calls t) (walk-expr-at t) walk-expr.Post
 walk-expr-same-length t c =
     let r = c .before .before in
-    r .read .kept .0
+    r .judge-read .kept .0
 
 walk-expr-returns-3 : (t : ℕ) → walk-expr-lts.Need-returns-3 (walk-expr-calls t) (walk-expr-at t) walk-expr.Post
 walk-expr-returns-3 t c =
@@ -425,8 +425,8 @@ walk-stmt-calls t = (
   walk-block.Post,
   pop-reads.Asked,
   pop-reads.Learnt,
-  reopen-reads.Asked,
-  reopen-reads.Learnt,
+  reenter-block-reads.Asked,
+  reenter-block-reads.Learnt,
   walk-expr-below t,
   walk-expr.Post,
   walk-targets-below t,
@@ -569,7 +569,7 @@ walk-stmt-same-length t c =
     let r = c .before .before in
     let w = r .before .before .before .before .before in
     let d = w .before .before .before .before .before in
-    r .reopen .kept .1 .0 ∙ (w .walk-block .kept .1 .0 ∙ d .define .kept .1 .0)
+    r .reenter-block .kept .1 .0 ∙ (w .walk-block .kept .1 .0 ∙ d .define .kept .1 .0)
 
 walk-stmt-returns-3 : (t : ℕ) → walk-stmt-lts.Need-returns-3 (walk-stmt-calls t) (walk-stmt-at t) walk-stmt.Post
 walk-stmt-returns-3 t c =

@@ -23,7 +23,7 @@ same-length : tie.Need-same-length
 same-length c =
     let w = c .before .before in
     let b = w .before .before .before .before in
-    w .walk-stmts .kept .1 .0 ∙ b .begin .kept .1 .0
+    w .walk-stmts .kept .1 .0 ∙ b .bind-given .kept .1 .0
 
 returns : tie.Need-returns
 returns c =

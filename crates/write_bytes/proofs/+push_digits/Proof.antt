@@ -10,11 +10,11 @@ use Rattle.write_bytes.proofs.Pushed.{push-none, push-more}
 use Rattle.write_bytes.proofs.Digits.{digits-none, digits-last, digits-more}
 use Rattle.write_bytes.proofs.push_digits.Reads as push-digits
 use Rattle.write_bytes.proofs.push_digits.Kinds as push-digits-kinds
-use Rattle.print_lines.proofs.+push_digits.Lts-push_digits as lts
+use Rattle.write_bytes.proofs.+push_digits.Lts-push_digits as lts
 use Rattle.write_bytes.proofs.narrow.Reads as narrow-reads
 use Rattle.write_bytes.proofs.push_byte.Reads as push-byte-reads
-use Rattle.print_lines.proofs.+push_digits.{statement}
-use Rattle.print_lines.proofs.+push_digits.Tie.{close}
+use Rattle.write_bytes.proofs.+push_digits.{statement}
+use Rattle.write_bytes.proofs.+push_digits.Tie.{close}
 
 abbrev μ-push-digits : Measures 1 push-digits-kinds.ps ℕ
 μ-push-digits κs a = a .1 .1 .0
