@@ -25,8 +25,8 @@ slice-aggregate-put c = search needs
 put-requires : tie.Need-put-requires Inv-loop μ-loop
 put-requires c κs = search needs
 
-below-requires : tie.Need-below-requires Inv-loop μ-loop
-below-requires c κs = search needs
+lines-below-requires : tie.Need-lines-below-requires Inv-loop μ-loop
+lines-below-requires c κs = search needs
 
 slice-aggregate-put-2 : tie.Need-slice-aggregate-put-2 Inv-loop μ-loop
 slice-aggregate-put-2 c = search needs
@@ -75,7 +75,7 @@ show-spec =
     kind-requires
     slice-aggregate-put
     put-requires
-    below-requires
+    lines-below-requires
     slice-aggregate-put-2
     put-requires-2
     offset-requires

@@ -22,8 +22,8 @@ kind-requires c κs = omega arith
 summed-requires : tie.Need-summed-requires Inv-loop μ-loop
 summed-requires c κs = omega arith
 
-below-requires : tie.Need-below-requires Inv-loop μ-loop
-below-requires c κs = omega arith
+lines-below-requires : tie.Need-lines-below-requires Inv-loop μ-loop
+lines-below-requires c κs = omega arith
 
 summed-requires-2 : tie.Need-summed-requires-2 Inv-loop μ-loop
 summed-requires-2 c κs = omega arith
@@ -62,7 +62,7 @@ sum-of-spec =
     loop-holds
     kind-requires
     summed-requires
-    below-requires
+    lines-below-requires
     summed-requires-2
     offset-requires
     summed-requires-3

@@ -1,6 +1,6 @@
 -- The cycle of calls. Each member's measure is eight times the lines left, and its rank: a call that spends a line may go to any member, and a
 -- call that spends none goes to a lower rank. The loops' invariant: what is left of the rows gives what is wanted.
-use Prim.Native.Nat.{ℕ, _+_, _*_, _-_}
+use Prim.Native.Nat.{ℕ, _+_, _*_, _-_, _<_}
 use native.Mathlib.Omega.{arith}
 use mathlib.Core.Path.{_≡_, refl, sym, _∙_}
 use mathlib.Core.Bool.{false}

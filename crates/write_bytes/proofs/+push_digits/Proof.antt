@@ -1,5 +1,5 @@
 -- The digits of a tenth are pushed before the last digit. The measure is the number of digits that are left.
-use Prim.Native.Nat.{ℕ, _-_, _/_}
+use Prim.Native.Nat.{ℕ, _-_, _/_, _<_}
 use native.Mathlib.Omega.{arith}
 use mathlib.Core.List.{[], _∷_}
 use borrow.Author.Needs.{needs}
