@@ -1,2 +1,3 @@
--- The proofs about messages. Lengths: how long a message is.
+-- The proofs about messages. Table: what a table of texts says of a kind. Lengths: how long a message is.
+mod Table
 pub mod Lengths

@@ -1,2 +1,3 @@
--- Messages as bytes.
+-- Messages as bytes, and the table of the eight texts.
 pub mod MessagesModel
+pub mod TextsModel

@@ -268,10 +268,10 @@ eightTexts =
     ∷ words 15 "Method '" "' in class '" "' must have 'self' as first parameter"
     ∷ []
 
-abbrev written : Words → Bytes → Bytes → Bytes
+abbrev pub written : Words → Bytes → Bytes → Bytes
 written w x c = w .before ++ (x ++ (w .between ++ (c ++ w .after)))
 
-abbrev messageFrom : List Words → ℕ → Bytes → Bytes → Bytes
+abbrev pub messageFrom : List Words → ℕ → Bytes → Bytes → Bytes
 messageFrom [] k x c = []
 messageFrom (w ∷ ws) k x c = elim (eqb k (w .kind)) [ true ↦ written w x c | false ↦ messageFrom ws k x c ]
 

@@ -11,8 +11,8 @@ enter-requires c κs = search needs
 owns-requires : tie.Need-owns-requires
 owns-requires c κs = search needs
 
-add-note-rows : tie.Need-add-collect-locals
-add-note-rows c = search needs
+add-collect-locals : tie.Need-add-collect-locals
+add-collect-locals c = search needs
 
 collect-locals-requires : tie.Need-collect-locals-requires
 collect-locals-requires c κs = search needs
@@ -45,7 +45,7 @@ enter-block-spec =
     (tie.spec
     enter-requires
     owns-requires
-    add-note-rows
+    add-collect-locals
     collect-locals-requires
     same-length
     returns

@@ -14,8 +14,8 @@ define-requires c κs = search needs
 owns-requires : tie.Need-owns-requires
 owns-requires c κs = search needs
 
-add-note : tie.Need-add-note
-add-note c = search needs
+add-note-name : tie.Need-add-note-name
+add-note-name c = search needs
 
 note-name-requires : tie.Need-note-name-requires
 note-name-requires c κs = search needs
@@ -49,7 +49,7 @@ enter-one-spec =
     row-of-requires
     define-requires
     owns-requires
-    add-note
+    add-note-name
     note-name-requires
     same-length
     returns

@@ -15,7 +15,7 @@ returns c =
     let o = c .before .before in
     let i = o .before .before in
     let a = i .before .before .before .before .args in
-    reopen-def (a .text .now) (a .s) (a .work .now) (i .if1 .taken) _ (o .«open» .ensures)
+    reopen-def (a .text .now) (a .s) (a .work .now) (i .if1 .taken) _ (o .enter-block .ensures)
 
 returns-2 : tie.Need-returns-2
 returns-2 c =

@@ -2,8 +2,8 @@
 use mathlib.Core.List.{_++_}
 use borrow.Author.Needs.{needs}
 use Rattle.write_bytes.proofs.Pushed.{push-more}
-use Rattle.report_messages.proofs.round.Statement.{statement}
-use Rattle.report_messages.proofs.round.Tie as tie
+use Rattle.report_messages.proofs.push_round.Statement.{statement}
+use Rattle.report_messages.proofs.push_round.Tie as tie
 
 push-requires : tie.Need-push-requires
 push-requires c κs = search needs
@@ -40,8 +40,8 @@ returns c =
     (push-more (p₂ .push2 .last .0) (p₂ .push2 .result) m (k ++ e) (p₃ .push3 .ensures)
     (push-more (p₃ .push3 .last .0) (p₃ .push3 .result) k e (p₄ .push4 .ensures) (p₅ .push5 .ensures))))
 
-pub round-spec : {M : Type 1} → statement M
-round-spec =
+pub push-round-spec : {M : Type 1} → statement M
+push-round-spec =
     tie.close
     (tie.spec
     push-requires
