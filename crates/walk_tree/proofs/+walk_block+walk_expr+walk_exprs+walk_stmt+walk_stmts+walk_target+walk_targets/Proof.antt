@@ -178,13 +178,13 @@ walk-block-same-length : (t : ℕ) → walk-block-lts.Need-same-length (walk-blo
 walk-block-same-length t c =
     let w = c .before .before in
     let o = w .before .before .before .before in
-    w .walk-stmts .kept .1 .0 ∙ o .«open» .kept .1 .0
+    w .walk-stmts .kept .1 .0 ∙ o .enter-block .kept .1 .0
 
 walk-block-returns : (t : ℕ) → walk-block-lts.Need-returns (walk-block-calls t) (walk-block-at t) walk-block.Post
 walk-block-returns t c =
     let w = c .before .before in
     let o = w .before .before .before .before in
-    block-lines _ _ _ _ _ _ _ (o .«open» .ensures) (w .walk-stmts .ensures)
+    block-lines _ _ _ _ _ _ _ (o .enter-block .ensures) (w .walk-stmts .ensures)
 
 -- ---- walk_expr
 abbrev walk-expr-calls : ℕ → walk-expr-lts.Claims
@@ -320,7 +320,7 @@ walk-expr-same-length-3 : (t : ℕ) → walk-expr-lts.Need-same-length-3 (walk-e
 walk-expr-same-length-3 t c =
     let w = c .before .before in
     let o = w .before .before .before .before in
-    w .walk-stmts .kept .1 .0 ∙ o .«open» .kept .1 .0
+    w .walk-stmts .kept .1 .0 ∙ o .enter-block .kept .1 .0
 
 walk-expr-returns-5 : (t : ℕ) → walk-expr-lts.Need-returns-5 (walk-expr-calls t) (walk-expr-at t) walk-expr.Post
 walk-expr-returns-5 t c =
@@ -333,7 +333,7 @@ walk-expr-returns-5 t c =
     let i = a₂ .before .before in
     let i₂ = i .before in
     expr-lambda _ _ _ _ _ _ (i₂ .if1 .left) (i .if2 .left) _ (a₂ .after-row .ensures .0) _ _ _ (sym (k .kind .ensures) ∙ m .match .keys3)
-    (p .push-lambda .ensures) (o .«open» .ensures) (w .walk-stmts .ensures)
+    (p .push-lambda .ensures) (o .enter-block .ensures) (w .walk-stmts .ensures)
 
 walk-expr-same-length-4 : (t : ℕ) → walk-expr-lts.Need-same-length-4 (walk-expr-calls t) (walk-expr-at t) walk-expr.Post
 walk-expr-same-length-4 t c =
