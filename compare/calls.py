@@ -1,69 +1,79 @@
 #!/usr/bin/env python3
-"""Calls of check, report, message and name, and what they have to answer, worked
-out by document01.py.
+"""Makes calls of check, report, message and name, and what they have to answer, worked out by the
+independent reading of document 01 (document01/).
 
-Writes two files: frames that the program `test_calls` takes on its standard input,
-and the bytes that it has to write.  Every call finds its buffers filled, most of
-them with ones; a sum over the whole output buffer shows what was written and that
-the rest is unchanged.  Python 3, standard library only.
-
-    calls.py FOLDER         writes FOLDER/stdin and FOLDER/stdout
-    calls.py check FOLDER   says whether the files are those that it would write
+They are two files: frames that the program `test_calls` takes on its standard input, and the
+bytes that it has to write.  Every call finds its buffers filled, most of them with ones; a sum
+over the whole output buffer shows what was written and that the rest is unchanged.
 """
 
 import random
 import sys
 
-import document01
-from frames import Frames, files, summed
+from document01 import answers
+from document01.answers import NoMessage, faults_of
+from document01.damage import damaged
+from document01.random_trees import random_tree
+from document01.reader import Refusal
+from document01.scripts import SCRIPTS
+from document01.tree import render
+from frames import Frames, Made, command, summed
 
 ONES = 4294967295
 WORK = 16384
 
 
 class Calls(Frames):
-    def check(self, work, value):
+    """Calls on a text, and their answers."""
+
+    def check(self, work: int, value: int) -> None:
+        """With so many numbers of work, each of this value."""
         self.frame(b'c', work, value)
-        answer = document01.check(self.text, work)
+        answer = answers.check(self.text, work)
         if answer is None:
             said = 'accepted'
-        elif isinstance(answer, tuple):
-            said = 'refused\t%d\t%d\t' % answer[1:]
+        elif isinstance(answer, Refusal):
+            said = 'refused\t%d\t%d\t' % (answer.number, answer.carries)
         else:
             said = '\t'.join(map(str, answer))
         self.answers.append(('check\t%s\n' % said).encode('ascii'))
 
-    def report(self, work, room, value=ONES):
+    def report(self, work: int, room: int, value: int = ONES) -> None:
+        """To an output of so many numbers, each of this value: ones or zeros."""
         self.frame(b'p' if value else b'q', work, room)
-        answer = document01.report(self.text, work, room)
+        answer = answers.report(self.text, work, room)
         out = [value] * room
-        if isinstance(answer, tuple):
-            said = 'refused\t%d\t%d' % answer[1:]
+        if isinstance(answer, Refusal):
+            said = 'refused\t%d\t%d' % (answer.number, answer.carries)
         else:
-            out[:len(answer)] = answer
-            said = 'written\t%d' % (len(answer) // 7)
+            numbers = answers.numbers(answer)
+            out[:len(numbers)] = numbers
+            said = 'written\t%d' % len(answer)
         self.answers.append(('report\t%s\t%d\n' % (said, summed(out))).encode('ascii'))
 
-    def message(self, i, room):
+    def message(self, i: int, room: int) -> None:
+        """To an output of so many bytes, all ones."""
         self.frame(b'm', i, room)
-        answer = document01.message(self.text, WORK, i, room)
+        answer = answers.message(self.text, WORK, i, room)
         out = bytearray(b'\xff' * room)
-        if isinstance(answer, tuple):
-            said = '\t'.join(map(str, answer if len(answer) == 3 else answer[1:])).encode('ascii')
+        if isinstance(answer, Refusal):
+            said = b'refused\t%d\t%d' % (answer.number, answer.carries)
+        elif isinstance(answer, NoMessage):
+            said = b'%d' % answer.value
         else:
             out[:len(answer)] = answer
             said = b'written\t%d\t%s' % (len(answer), answer)
         self.answers.append(b'message\t%s\t%d\n' % (said, summed(out)))
 
-    def name(self, i):
+    def name(self, i: int) -> None:
         self.frame(b'n', i, 0)
-        offset, length = document01.name(self.text, WORK, i)
-        self.answers.append(b'name\t%d\t%s\n' % (length, self.text[offset:offset + length]))
+        part = answers.name(self.text, WORK, i)
+        self.answers.append(b'name\t%d\t%s\n' % (part.length, part.of(self.text)))
 
-    def all_calls(self, most=40):
+    def all_calls(self, most: int = 40) -> None:
         """Each call on the text; buffers empty, one short and exactly full."""
-        found = document01.judged(self.text, WORK)
-        count = 0 if isinstance(found, tuple) else len(found)
+        found = faults_of(self.text)
+        count = len(found)
         for work in (WORK, WORK - 1, 1, 0, WORK + 1):
             self.check(work, ONES)
             self.report(work, 7 * count)
@@ -72,16 +82,16 @@ class Calls(Frames):
         self.report(WORK, 7 * count, 0)
         for room in sorted({0, 1, 7 * count - 1, 7 * count + 1, 7 * count + 7} - {-1}):
             self.report(WORK, room)
-        for i in sorted(set(range(min(count, most))) | {max(count - 1, 0), count, count + 1, ONES}):
+        last = {max(count - 1, 0), count, count + 1, ONES}
+        for i in sorted(set(range(min(count, most))) | last):
             length = len(found[i].message) if i < count else 0
             for room in sorted({0, max(length - 1, 0), length, 200}):
                 self.message(i, room)
             self.name(i)
 
-    def few_calls(self, rng):
+    def few_calls(self, rng: random.Random) -> None:
         """Some calls on the text, with buffers that may be too short."""
-        found = document01.judged(self.text, WORK)
-        count = 0 if isinstance(found, tuple) else len(found)
+        count = len(faults_of(self.text))
         self.check(WORK, ONES)
         self.report(WORK, 7 * count)
         self.report(WORK, max(7 * count - rng.randrange(1, 8), 0))
@@ -90,14 +100,15 @@ class Calls(Frames):
         self.name(i)
 
 
-def made():
-    calls = Calls()
-    for _, text, _ in document01.SCRIPTS:
-        if len(text) > 5000:
-            continue
-        calls.take(text)
-        calls.all_calls()
-    # the longest text, one byte more, and 4,096 lines
+def document01_scripts(calls: Calls) -> None:
+    for script in SCRIPTS:
+        if len(script.text) <= 5000:
+            calls.take(script.text)
+            calls.all_calls()
+
+
+def longest_texts(calls: Calls) -> None:
+    """The longest text, one byte more, and 4,096 lines."""
     for extra in (0, 1):
         calls.take(b'a')
         calls.repeat(65535 + extra, b'a')
@@ -109,7 +120,10 @@ def made():
     calls.repeat(4096, b'pass\t0\t4\n')
     calls.check(WORK, ONES)
     calls.report(WORK, 0)
-    # as many faults as fit 16,384 numbers, one more, and one on each line but two
+
+
+def many_faults(calls: Calls) -> None:
+    """As many as fit 16,384 numbers, one more, and one on each line but two."""
     for count in (2340, 2341, 4094):
         calls.take(b'tree\t0\t1\nexpr\t0\t1\nlist\t0\t1\t%d\n' % count)
         calls.repeat(count, b'var\t0\t1\ty\n')
@@ -119,21 +133,32 @@ def made():
         for i in (0, count - 1, count):
             calls.message(i, 200)
             calls.name(i)
-    # all kinds, many times
+
+
+def random_trees(calls: Calls) -> None:
+    """Random trees and damaged ones: all kinds, many times."""
     rng = random.Random(29)
     for lines in (3, 6, 12, 25, 60):
         for k in range(230 if lines < 20 else 40):
-            text = document01.render(document01.random_tree(rng, lines))
+            text = render(random_tree(rng, lines))
             calls.take(text)
             if k < 6:
                 calls.all_calls(most=12)
             else:
                 calls.few_calls(rng)
             if k % 4 == 0:
-                calls.take(document01.damaged(rng, text))
+                calls.take(damaged(rng, text))
                 calls.few_calls(rng)
+
+
+def made() -> Made:
+    calls = Calls()
+    document01_scripts(calls)
+    longest_texts(calls)
+    many_faults(calls)
+    random_trees(calls)
     return calls.made()
 
 
 if __name__ == '__main__':
-    sys.exit(files(sys.argv[1:], 'calls', *made()))
+    sys.exit(command(__doc__, 'calls', made))

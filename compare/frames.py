@@ -1,13 +1,30 @@
-"""Frames for the replay programs, and the two files that hold them: what a program
-takes on its standard input, and what it has to write.  Python 3, standard library only.
+"""Frames for the programs that replay texts in the gate, and the two files that hold them: what a
+program takes on its standard input, and what it has to write.
+
+A frame is a letter, two numbers of four bytes and, for two of the letters, bytes:
+
+    t   0 and a length          takes these bytes as the text
+    r   times and a length      puts these bytes behind the text, so many times
+
+What the other letters ask for is for the program to say.
 """
 
+import argparse
 from pathlib import Path
+from typing import Callable, Iterable, NamedTuple
 
 ROOM = 262144                   # bytes that a program reads
 
 
-def summed(numbers):
+class Made(NamedTuple):
+    """The two files, and how many answers they hold."""
+
+    frames: bytes
+    answers: bytes
+    number: int
+
+
+def summed(numbers: Iterable[int]) -> int:
     """The sum that the programs write of numbers."""
     total = 0
     for number in numbers:
@@ -16,38 +33,55 @@ def summed(numbers):
 
 
 class Frames:
-    def __init__(self):
-        self.frames = []
-        self.answers = []
+    """Collects frames, and the answers to those that ask for one."""
+
+    def __init__(self) -> None:
+        self.frames: list[bytes] = []
+        self.answers: list[bytes] = []
         self.text = b''
 
-    def frame(self, letter, a, b, more=b''):
+    def frame(self, letter: bytes, a: int, b: int, more: bytes = b'') -> None:
         self.frames.append(letter + a.to_bytes(4, 'little') + b.to_bytes(4, 'little') + more)
 
-    def take(self, text):
+    def take(self, text: bytes) -> None:
         self.text = text
         self.frame(b't', 0, len(text), text)
 
-    def repeat(self, times, chunk):
+    def repeat(self, times: int, chunk: bytes) -> None:
         self.text += times * chunk
         self.frame(b'r', times, len(chunk), chunk)
 
-    def made(self):
-        """The bytes of all frames and of all answers, and how many answers there are."""
+    def made(self) -> Made:
         frames = b''.join(self.frames)
         assert len(frames) <= ROOM, len(frames)
-        return frames, b''.join(self.answers), len(self.answers)
+        return Made(frames, b''.join(self.answers), len(self.answers))
 
 
-def files(arguments, noun, frames, answers, count):
-    """Writes the two files to a folder; or, after `check`, says whether they are these."""
-    folder = Path(arguments[-1])
-    if arguments[0] == 'check':
-        same = ((folder / 'stdin').read_bytes() == frames
-                and (folder / 'stdout').read_bytes() == answers)
-        print('%d %s: the files are %s' % (count, noun, 'these' if same else 'OTHERS'))
-        return 0 if same else 1
-    (folder / 'stdin').write_bytes(frames)
-    (folder / 'stdout').write_bytes(answers)
-    print('%d %s, %d bytes of frames, %d bytes of answers' % (count, noun, len(frames), len(answers)))
+def write(folder: Path, noun: str, made: Made) -> int:
+    (folder / 'stdin').write_bytes(made.frames)
+    (folder / 'stdout').write_bytes(made.answers)
+    print('%d %s, %d bytes of frames, %d bytes of answers'
+          % (made.number, noun, len(made.frames), len(made.answers)))
     return 0
+
+
+def check(folder: Path, noun: str, made: Made) -> int:
+    others = [file for file, expected in (('stdin', made.frames), ('stdout', made.answers))
+              if (folder / file).read_bytes() != expected]
+    print('%d %s: the files are %s' % (made.number, noun, 'OTHERS' if others else 'these'))
+    for file in others:
+        print('%s would be made otherwise' % (folder / file))
+    return 1 if others else 0
+
+
+def command(description: str | None, noun: str, make: Callable[[], Made]) -> int:
+    """The command line that makes two such files."""
+    parser = argparse.ArgumentParser(description=description,
+                                     formatter_class=argparse.RawDescriptionHelpFormatter)
+    commands = parser.add_subparsers(dest='command', required=True)
+    for name, what in (('check', 'says whether FOLDER/stdin and FOLDER/stdout are what is made'),
+                       ('write', 'writes FOLDER/stdin and FOLDER/stdout')):
+        commands.add_parser(name, help=what).add_argument('folder', metavar='FOLDER', type=Path)
+    given = parser.parse_args()
+    folder: Path = given.folder
+    return (check if given.command == 'check' else write)(folder, noun, make())
