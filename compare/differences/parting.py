@@ -5,10 +5,10 @@ from typing import Iterator
 from document01.faults import Positions, Read, home, judge
 from document01.reader import read
 from document01.tree import Node
-from python import SAME
 from tree_of import tree_of
 
 from .marked_run import Run
+from .sections import SAME
 
 Above = dict[int, tuple[Node, ...]]     # the nodes above each line, the outermost first
 
