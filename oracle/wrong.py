@@ -155,7 +155,7 @@ struct serduzhap_name serduzhap_name(const uint8_t *text, size_t t, uint32_t *wo
 '''
 
 
-def build(original, library):
+def build(original: Path, library: Path) -> None:
     """The comparison, with this original and this library."""
     shutil.rmtree(WRONG / 'built', ignore_errors=True)
     ran = subprocess.run(['bash', str(ROOT / 'oracle' / 'build.sh'), str(original), str(WRONG / 'built'), str(library)],
@@ -164,7 +164,7 @@ def build(original, library):
         sys.exit(ran.stderr)
 
 
-def edited(original, file, old, new):
+def edited(original: Path, file: str, old: str, new: str) -> Path:
     """A copy of the original's files with one edit."""
     copy = WRONG / 'original'
     shutil.rmtree(copy, ignore_errors=True)
@@ -178,7 +178,7 @@ def edited(original, file, old, new):
     return copy
 
 
-def spoiled(place, code):
+def spoiled(place: str, code: str) -> Path:
     """The library behind calls of which one spoils something."""
     folder = WRONG / 'library'
     shutil.rmtree(folder, ignore_errors=True)
@@ -195,38 +195,44 @@ def spoiled(place, code):
     return folder
 
 
-def noticed(command, count):
+def noticed(command: str, count: int) -> str | None:
     """How it was noticed, or None."""
     start = time.time()
     ran = subprocess.run([str(WRONG / 'built' / 'oracle'), command, str(count), '1'], capture_output=True, text=True, errors='replace')
     spent = time.time() - start
     if ran.returncode < 0:
         return 'crashed by signal %d, %.1f s' % (-ran.returncode, spent)
-    if 'DIFFERENCE' in ran.stdout:
-        trees, texts = re.match(r'(\d+) trees, (\d+) texts', ran.stdout).groups()
-        return '%s trees, %s texts, %.1f s' % (trees, texts, spent)
+    counted = re.match(r'\d+ trees, \d+ texts', ran.stdout)
+    if 'DIFFERENCE' in ran.stdout and counted:
+        return '%s, %.1f s' % (counted[0], spent)
     if 'no difference' in ran.stdout:
         return None
     return 'ended with %d, %.1f s: %s' % (ran.returncode, spent, ran.stderr.strip().splitlines()[0][:80])
 
 
-def main(arguments):
+def tried(command: str, title: str) -> bool:
+    """Whether what was built is noticed."""
+    how = noticed(command, 1000000)
+    print('%-8s %-62s %s' % (command, title, how or 'NOT NOTICED'), flush=True)
+    return how is not None
+
+
+def main(arguments: list[str]) -> int:
     original, words = Path(arguments[0]).resolve(), ' '.join(arguments[1:])
     subprocess.run(['rt', 'staticlib', 'serduzhap_c'], cwd=ROOT, check=True, stdout=subprocess.DEVNULL, stderr=subprocess.DEVNULL)
     library = ROOT / 'target' / 'staticlib'
-    wrong = [(title, 'trees', lambda file=file, old=old, new=new: (edited(original, file, old, new), library))
-             for title, file, old, new in RULES]
-    wrong += [(title, command, lambda place=place, code=code: (original, spoiled(place, code)))
-              for title, command, place, code in LIBRARIES]
-    wrong = [one for one in wrong if words in one[0]]
-    missed = 0
-    for title, command, made in wrong:
-        build(*made())
-        how = noticed(command, 1000000)
-        missed += how is None
-        print('%-8s %-62s %s' % (command, title, how or 'NOT NOTICED'), flush=True)
-    print('%d wrong copies, %d not noticed' % (len(wrong), missed))
-    return 1 if missed or not wrong else 0
+    results = []
+    for title, file, old, new in RULES:
+        if words in title:
+            build(edited(original, file, old, new), library)
+            results.append(tried('trees', title))
+    for title, command, place, code in LIBRARIES:
+        if words in title:
+            build(original, spoiled(place, code))
+            results.append(tried(command, title))
+    missed = results.count(False)
+    print('%d wrong copies, %d not noticed' % (len(results), missed))
+    return 1 if missed or not results else 0
 
 
 if __name__ == '__main__':
