@@ -1,4 +1,4 @@
--- What the rows of a part give the follow: the row that it stands at, the rows of its parts, and the row after it. Nothing that the follow
+-- What the rows of a part give the walk: the row that it stands at, the rows of its parts, and the row after it. Nothing that the walk
 -- writes changes this: it keeps the rows, the second numbers and the heads, and from these alone names are found.
 use Prim.Native.Nat.{ℕ, zero, suc, _+_, _-_, _/_, _%_, _≤_, _<_}
 use native.Mathlib.Omega.{arith}
@@ -100,7 +100,7 @@ module _ {text : Bytes} {rows : List Row} {num : Bytes → ℕ} {w : List ℕ} (
   after-S (def l b) h = row-after t h
   after-S (class l ms ats) h = row-after t h
 
--- ---- what the follow keeps
+-- ---- what the walk keeps
 module _ {w v : List ℕ} (k : Kept w v) where
   kept-head : (h : ℕ) → headAt v h ≡ headAt w h
   kept-head h = k .heads (h % 4_096) (omega arith)

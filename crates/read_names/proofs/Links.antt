@@ -1,5 +1,5 @@
--- Links of a chain: what a link says stays with one name more, and a follow along the links of a name's hash ends at the earliest row
--- that has the name. A follow has passed all new rows from m on that have the name, and a link skips only rows of other hashes.
+-- Links of a chain: what a link says stays with one name more, and whoever follows the links of a name's hash ends at the earliest row
+-- that has the name. All new rows from m on that have the name are passed, and a link skips only rows of other hashes.
 use Prim.Native.Nat.{ℕ, zero, suc, _+_, _-_, _≤_, _<_}
 use native.Mathlib.Nat.{eq-or-lt-of-le}
 use native.Mathlib.Omega.{arith}
@@ -77,13 +77,13 @@ link-on {names} h n f e = record {
 link-top : {names : List Bytes} (h n j : ℕ) → Link names h n (suc j) → New names j × (hashOf (getD names j []) ≡ h)
 link-top {names} h n j l = subst (λ z. New names z × (hashOf (getD names z []) ≡ h)) (omega arith) (l .top (omega arith))
 
--- ---- the follow: no new row from m on has the name
+-- ---- along the chain: no new row from m on has the name
 abbrev Past : List Bytes → Bytes → ℕ → Type 0
 Past names x m = (k : ℕ) → m ≤ k → k < length names → New names k → getD names k [] ≡ x → ⊥
 
 module _ {text : Bytes} {names : List Bytes} {w : List ℕ} (s : Names text names w) (x : Bytes) (some : x ≡ [] → ⊥) where
-  walk-end : (m : ℕ) → Link names (hashOf x) m 0 → Past names x m → rowsMost ≡ earliest names x
-  walk-end m l past = go (sought names x)
+  follow-end : (m : ℕ) → Link names (hashOf x) m 0 → Past names x m → rowsMost ≡ earliest names x
+  follow-end m l past = go (sought names x)
     where
       go : ((j : ℕ) × First names x j) ⊎ Absent names x → rowsMost ≡ earliest names x
       go (inr a) = sym (earliest-absent names x a)
@@ -91,10 +91,10 @@ module _ {text : Bytes} {names : List Bytes} {w : List ℕ} (s : Names text name
           let n = first-is-new some f in
           absurd (⊎-elim (λ a. past j a (f .low) n (f .is)) (λ a. l .skip j a (omega arith) n (ap hashOf (f .is))) (le-or-lt m j))
 
-  -- at row j: it has the name, or the follow goes on with the rows before it
-  walk-step : (m j rest : ℕ) → m ≤ length names → Link names (hashOf x) m (suc j) → Past names x m → (Past names x j → rest ≡ earliest names x)
+  -- at row j: it has the name, or the search goes on with the rows before it
+  follow-step : (m j rest : ℕ) → m ≤ length names → Link names (hashOf x) m (suc j) → Past names x m → (Past names x j → rest ≡ earliest names x)
       → (elim (same (fieldAt text (offsetAt w j)) x) [ true ↦ j | false ↦ rest ]) ≡ earliest names x
-  walk-step m j rest b l past more = go (same (fieldAt text (offsetAt w j)) x) refl
+  follow-step m j rest b l past more = go (same (fieldAt text (offsetAt w j)) x) refl
     where
       low : j < length names
       low = omega (arith, l .low)
@@ -111,18 +111,18 @@ module _ {text : Bytes} {names : List Bytes} {w : List ℕ} (s : Names text name
           (λ i. same-false _ x e (name ∙ (ap (λ r. getD names r []) i ∙ z)))
           (λ i. l .skip k o i n (ap hashOf z)) (eq-or-lt-of-le a)) (le-or-lt m k))
 
-  pub walk-earliest : (fuel m c : ℕ) → c ≤ fuel → m ≤ length names → Link names (hashOf x) m c → Past names x m → follow fuel text w c x ≡ earliest names x
+  pub follow-earliest : (fuel m c : ℕ) → c ≤ fuel → m ≤ length names → Link names (hashOf x) m c → Past names x m → follow fuel text w c x ≡ earliest names x
   unfolding follow
-  walk-earliest zero m zero a b l past = walk-end m l past
-  walk-earliest zero m (suc j) a b l past = absurd (omega arith)
-  walk-earliest (suc fuel) m zero a b l past = walk-end m l past
-  walk-earliest (suc fuel) m (suc j) a b l past =
+  follow-earliest zero m zero a b l past = follow-end m l past
+  follow-earliest zero m (suc j) a b l past = absurd (omega arith)
+  follow-earliest (suc fuel) m zero a b l past = follow-end m l past
+  follow-earliest (suc fuel) m (suc j) a b l past =
       let t = link-top (hashOf x) m j l in
       let k : Link names (hashOf x) j (linkAt w j) = subst (λ h. Link names h j (linkAt w j)) (t .1) (s .links j (omega (arith, l .low)) (t .0)) in
-      walk-step m j _ b l past (λ p. walk-earliest fuel j (linkAt w j) (omega (arith, k .low)) (omega (arith, l .low)) k p)
+      follow-step m j _ b l past (λ p. follow-earliest fuel j (linkAt w j) (omega (arith, k .low)) (omega (arith, l .low)) k p)
 
   -- what is found for a name is the earliest row that has it
   pub found-earliest : found text w (hashOf x) x ≡ earliest names x
   found-earliest =
       let h : ℕ = headAt w (hashOf x) in
-      walk-earliest h (length names) h (omega arith) (omega arith) (s .heads (hashOf x) (hash-small x)) (λ k a b. absurd (omega arith))
+      follow-earliest h (length names) h (omega arith) (omega arith) (s .heads (hashOf x) (hash-small x)) (λ k a b. absurd (omega arith))

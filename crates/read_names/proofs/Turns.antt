@@ -1,4 +1,4 @@
--- The code's steps, as the definitions have them: a link, a turn of the follow and of the loop that clears.
+-- The code's steps, as the definitions have them: a link, a step along a chain, a turn of the loop that clears.
 use Prim.Native.Nat.{ℕ, zero, suc, _+_, _-_, _*_, _%_, _≤_, _<_}
 use native.Mathlib.Omega.{arith}
 use mathlib.Core.Path.{_≡_, refl, ap, _∙_}
@@ -31,7 +31,7 @@ link-falls w j = go (leb (sameAt w j - rowsMost) j) refl
     go true e = leb-true (sameAt w j - rowsMost) j e
     go false e = omega arith
 
--- ---- the follow at c, with c steps
+-- ---- along a chain from c on, with c steps
 module _ (text : Bytes) (w : List ℕ) (x : Bytes) where
   enough : (n m c : ℕ) → c ≤ n → c ≤ m → follow n text w c x ≡ follow m text w c x
   unfolding follow
@@ -45,10 +45,10 @@ module _ (text : Bytes) (w : List ℕ) (x : Bytes) where
       ap (λ r. elim (same (fieldAt text (offsetAt w j)) x) [ true ↦ j | false ↦ r ])
       (enough n m (linkAt w j) (omega (arith, link-falls w j)) (omega (arith, link-falls w j)))
 
-  pub walk-none : (c : ℕ) → c ≤ 0 → follow c text w c x ≡ rowsMost
+  pub follow-none : (c : ℕ) → c ≤ 0 → follow c text w c x ≡ rowsMost
   unfolding follow
-  walk-none zero l = refl
-  walk-none (suc j) l = absurd (omega arith)
+  follow-none zero l = refl
+  follow-none (suc j) l = absurd (omega arith)
 
   -- one step
   step : (c : ℕ) → 0 < c

@@ -1,5 +1,5 @@
--- The proofs about the reader. Theorems has what follows from its contract. Agenda has the theorem about the agenda: turns lead to where the definition of reading leads. Machine has
--- the theorem about the machine, whose agenda is in the work buffer: it ends where the definition ends.
+-- The proofs about the reader. Theorems has what follows from its contract. Machine has the theorem about the machine, whose
+-- agenda is in the work buffer: it ends where the definition ends.
 pub mod Theorems
 pub mod Machine
 pub mod CutText

@@ -37,7 +37,7 @@ module _ (x y : Bytes) (i : ℕ) (h : i < length x) (k : i < length y) where
 pub same-end : (x y : Bytes) (i : ℕ) → length x ≤ i → length y ≤ i → same (drop i x) (drop i y) ≡ true
 same-end x y i h k = rw (drop-of-length-le x h, drop-of-length-le y k)
 
--- ---- the names from placeAmong k on
+-- ---- the names from place k on
 pub total-turn : (ns : List ℕ) (k : ℕ) → k < length ns → total (drop k ns) ≡ getD ns k 0 + total (drop (k + 1) ns)
 total-turn ns k h = rw (add-one k, drop-cons ns k 0)
 
@@ -57,7 +57,7 @@ module _ (ns bs : List ℕ) (at k : ℕ) (h : k < length ns) where
 pub place-end : (ns : List ℕ) (bs : Bytes) (k : ℕ) (x : Bytes) → length ns ≤ k → placeAmong x (cutBy (drop k ns) bs) ≡ 0
 place-end ns bs k x h = rw (drop-of-length-le ns h)
 
--- ---- a name has a placeAmong among names exactly when it is one of them
+-- ---- a name has a place among names exactly when it is one of them
 pub place-mem : (x : Bytes) (ps : List Part) → ltb (placeAmong x (map (λ (p : Part). p .bytes) ps)) (length ps) ≡ mem x ps
 place-mem x [] = refl
 place-mem x (p ∷ ps) = go (same x (p .bytes)) (place-mem x ps)

@@ -7,7 +7,7 @@ use lib.ListN.{length, take, drop}
 use Rattle.spec_text.specs.Bytes.{Bytes, same}
 use Rattle.spec_faults.specs.Builtins.{Builtin, builtins}
 
--- the placeAmong of the first name with the bytes x, from 0; the number of names where there is none
+-- the place of the first name with the bytes x, from 0; the number of names where there is none
 abbrev pub placeAmong : Bytes → List Bytes → ℕ
 placeAmong x [] = 0
 placeAmong x (y ∷ ys) = elim (same x y) [ true ↦ 0 | false ↦ suc (placeAmong x ys) ]

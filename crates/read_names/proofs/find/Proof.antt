@@ -1,4 +1,4 @@
--- The loop's invariant: the follow from c on finds what is to be found.
+-- The loop's invariant: following the chain from c on finds what is to be found.
 use Prim.Native.Nat.{_-_, _<_}
 use native.Mathlib.Omega.{arith}
 use mathlib.Core.Path.{_≡_, sym, ap, _∙_}
@@ -8,7 +8,7 @@ use Rattle.spec_text.specs.Bytes.{same}
 use Rattle.read_fields.specs.FieldsModel.{fieldAt}
 use Rattle.work_rows.specs.Layout.{offsetAt}
 use Rattle.read_names.specs.ChainsModel.{follow, found}
-use Rattle.read_names.proofs.Turns.{walk-none, walk-has, walk-next}
+use Rattle.read_names.proofs.Turns.{follow-none, walk-has, walk-next}
 use Rattle.read_names.proofs.find.Statement.{statement}
 use Rattle.read_names.proofs.find.Tie as tie
 
@@ -67,7 +67,7 @@ returns-2 : tie.Need-returns-2 Inv-loop μ-loop
 returns-2 c =
     let l = c .before in
     let a = l .before .before .before .before .before .args in
-    sym (walk-none (a .text .now) (a .work .now) (a .name .now) (l .loop .c) (c .loop-test .left)) ∙ l .loop .inv .0
+    sym (follow-none (a .text .now) (a .work .now) (a .name .now) (l .loop .c) (c .loop-test .left)) ∙ l .loop .inv .0
 
 pub find-spec : {M : Type 1} → statement M
 find-spec =

@@ -1,4 +1,4 @@
--- `walk_builtins::find_in` meets its contract. The loop's invariant: the placeAmong is k more than the placeAmong among the names that are left, which start
+-- `walk_builtins::find_in` meets its contract. The loop's invariant: the place is k more than the place among the names that are left, which start
 -- at the byte at.
 use native.Mathlib.Omega.{arith}
 use mathlib.Core.Path.{_≡_, sym, _∙_}

@@ -1,4 +1,4 @@
--- One byte after the other. The loop's invariant: what is left to push, bytesPushed here, is what all of it was from the start.
+-- One byte after the other. The loop's invariant: what is left to push, pushed here, is what all of it was from the start.
 use Prim.Native.Nat.{_+_, _-_, _≤_}
 use native.Mathlib.Numerals.{add-one}
 use native.Mathlib.Omega.{arith}

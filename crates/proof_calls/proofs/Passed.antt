@@ -17,9 +17,9 @@ use Rattle.spec_faults.proofs.ListingWalk.{once}
 use Rattle.spec_faults.proofs.Once.{placed, byPlaceOnce, faults-once}
 use Rattle.spec_faults.proofs.Places.{PlacedWithin, faults-within}
 use Rattle.spec_answers.specs.Answers.{checkOf}
 use Rattle.serduzhap.specs.Calls.{Checks}
 use Rattle.serduzhap.specs.declared.CheckResult.the-variants as C
-use Rattle.serduzhap.proofs.Agreed.{none-of}
+use Rattle.proof_calls.proofs.Agreed.{none-of}
 
 -- ---- what is listed by place is empty only where nothing was judged at fault
 no-end : {A : Type 0} (a b : List A) → a ++ b ≡ [] → (a ≡ []) × (b ≡ [])

@@ -16,14 +16,14 @@ use Rattle.spec_faults.specs.Rust.{analyze-with-globals}
 use Rattle.spec_faults.proofs.Theorems.{each-fault-once, in-order}
 use Rattle.spec_answers.specs.Answers.{faulty, firstRecord, checkOf, over, ReportAnswer, written, reportOf, report, reportOut, MessageAnswer, wrote, noFault, tooLong, message, messageOut}
 use Rattle.spec_answers.proofs.Theorems.{Says, Words, rust-check, rust-message}
 use Rattle.serduzhap.specs.Calls.{checkSays, Checks, reportSays, Reports, messageSays, Messages}
 use Rattle.serduzhap.specs.declared.CheckResult.{CheckResult}
 use Rattle.serduzhap.specs.declared.CheckResult.the-variants as C
 use Rattle.serduzhap.specs.declared.ReportResult.{ReportResult}
 use Rattle.serduzhap.specs.declared.ReportResult.the-variants as R
 use Rattle.serduzhap.specs.declared.MessageResult.{MessageResult}
 use Rattle.serduzhap.specs.declared.MessageResult.the-variants as M
-use Rattle.serduzhap.proofs.Agreed.{all-written, none-of, accepts-none, report-apart}
+use Rattle.proof_calls.proofs.Agreed.{all-written, none-of, accepts-none, report-apart}
 
 -- ==== Demand 3
 -- "Take any tree within the limits, [..] and whatever stood in the buffers before. [..] If the output buffer holds the full report, the call

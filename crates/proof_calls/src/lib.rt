@@ -1,0 +1,1 @@
+// What follows from the promises of the public calls: proofs/Demands and proofs/Passed. No code.
