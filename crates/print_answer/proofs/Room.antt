@@ -7,17 +7,19 @@ use mathlib.Core.Path.{_≡_, refl, ap, _∙_}
 use mathlib.Core.Bool.{Bool, true, false}
 use mathlib.Core.List.{List, [], _∷_, _++_}
 use mathlib.Core.Option.{some}
-use lib.Dec.{eqb, ltb}
-use lib.ListN.{length, take, length-append}
-use Rattle.spec_text.specs.Bytes.{Bytes, Part, noPart, bytes}
+use lib.Dec.{eqb, leb, ltb}
+use lib.ListN.{length, getD, take, length-append}
+use borrow.Author.Tests.{leb-true}
+use Rattle.spec_text.specs.Bytes.{Bytes, Part, noPart, all, bytes}
 use Rattle.spec_text.specs.Reading.{shortestWork}
-use Rattle.spec_faults.specs.Faults.{Fault, faults, message, messageOf}
+use Rattle.spec_faults.specs.Faults.{Fault, faults, Words, eightTexts, written, messageFrom, messageOf}
 use Rattle.spec_answers.specs.Answers.{nthFault}
 use Rattle.spec_answers.specs.Printed.{faultLine, faultLines, refusedLine, printed}
 use Rattle.spec_text.specs.Writing.{digits, decimalOf, tabbed, lineWith}
+use Rattle.spec_text.proofs.Lists.{and-split}
 use Rattle.write_bytes.specs.PushModel.{Pushes}
 use Rattle.write_bytes.proofs.Pushed.{pushed-whole}
-use Rattle.report_messages.proofs.Lengths.{length-said}
+use Rattle.report_messages.proofs.Lengths.{length-written}
 use Rattle.find_faults.proofs.Theorems.{faults-short, faults-classless}
 use Rattle.print_answer.proofs.Cases.{by-answer}
 
@@ -49,27 +51,30 @@ refused-short : (k n : ℕ) → length (refusedLine k n) ≤ 30
 refused-short k n = rw (length-line (bytes "refused") (decimalOf k ∷ decimalOf n ∷ [])) (omega (arith, digits-short 10 k, digits-short 10 n))
 
 -- ---- messages: 72 bytes of words at most, and two names; of 15, which alone has a class name, 57
-longer : (t : Bool) (a b : Bytes) (m : ℕ) → length a ≤ m → length b ≤ m → length {A = ℕ} (elim t [ true ↦ a | false ↦ b ]) ≤ m
-longer true a b m h i = h
-longer false a b m h i = i
+abbrev wordsLength : Words → ℕ
+wordsLength w = length (w .before) + (length (w .between) + length (w .after))
 
-message-short : (k : ℕ) (x c : Bytes) → length (message k x c) ≤ 72 + (length x + length c)
-message-short k x c =
-    let m : ℕ = 72 + (length x + length c) in
-    longer (eqb k 8) _ _ m (omega (arith, length-said 0 x c))
-    (longer (eqb k 9) _ _ m (omega (arith, length-said 1 x c))
-    (longer (eqb k 10) _ _ m (omega (arith, length-said 2 x c))
-    (longer (eqb k 11) _ _ m (omega (arith, length-said 3 x c))
-    (longer (eqb k 12) _ _ m (omega (arith, length-said 4 x c))
-    (longer (eqb k 13) _ _ m (omega (arith, length-said 5 x c))
-    (longer (eqb k 14) _ _ m (omega (arith, length-said 6 x c)) (longer (eqb k 15) _ _ m (omega (arith, length-said 7 x c)) (omega arith))))))))
+-- a table whose words are short
+message-short : (m k : ℕ) (x c : Bytes) (ws : List Words) → all (λ (w : Words). leb (wordsLength w) m) ws ≡ true → length (messageFrom ws k x c) ≤ m + (length x + length c)
+message-short m k x c [] h = omega arith
+message-short m k x c (w ∷ ws) h =
+    let p = and-split (leb (wordsLength w) m) _ h in
+    go (eqb k (w .kind)) (leb-true (wordsLength w) m (p .0)) (message-short m k x c ws (p .1))
+  where
+    go : (t : Bool) → wordsLength w ≤ m → length (messageFrom ws k x c) ≤ m + (length x + length c)
+        → length {A = ℕ} (elim t [ true ↦ written w x c | false ↦ messageFrom ws k x c ]) ≤ m + (length x + length c)
+    go true l r = omega (arith, length-written w x c)
+    go false l r = r
+
+abbrev fifteen : Words
+fifteen = getD eightTexts 7 (record { kind = 0; before = []; between = []; after = [] })
 
 fault-short : (f : Fault) → ((f .kind ≡ 15 → ⊥) → f .inClass ≡ noPart) → length (f .name .bytes) ≤ 63 → length (f .inClass .bytes) ≤ 63 → length (messageOf f) ≤ 183
 fault-short f c h i = go (ℕ-discrete (f .kind) 15)
   where
     go : Dec (f .kind ≡ 15) → length (messageOf f) ≤ 183
-    go (yes k) = rw k (omega (arith, length-said 7 (f .name .bytes) (f .inClass .bytes)))
-    go (no k) = omega (arith, message-short (f .kind) (f .name .bytes) (f .inClass .bytes), ap (λ (p : Part). length (p .bytes)) (c k))
+    go (yes k) = rw k (omega (arith, length-written fifteen (f .name .bytes) (f .inClass .bytes)))
+    go (no k) = omega (arith, message-short 72 (f .kind) (f .name .bytes) (f .inClass .bytes) eightTexts refl, ap (λ (p : Part). length (p .bytes)) (c k))
 
 -- ---- all lines
 line-short : (f : Fault) → length (messageOf f) ≤ 183 → length (faultLine f) ≤ 223
