@@ -1,4 +1,4 @@
--- The reader's answer in numbers, for C: document 01's refusal number and line, 0 and 0 for a tree; and the tree's `global` lines and lines
+-- The reader's answer in numbers, for C: refusal number and line, 0 and 0 for a tree; and the tree's `global` lines and lines
 -- after the first, 0 and 0 for a text that is refused.
 use Rattle.read_tree.specs.declared.Read.{Read}
 use Rattle.read_tree.specs.declared.Read.the-variants as R

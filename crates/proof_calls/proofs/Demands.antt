@@ -27,7 +27,7 @@ use Rattle.proof_calls.proofs.Agreed.{all-written, none-of, accepts-non
 
 -- ==== Demand 3
 -- "Take any tree within the limits, [..] and whatever stood in the buffers before. [..] If the output buffer holds the full report, the call
--- report writes to it, from the start, exactly the records of that tree's faults, each fault once and nothing else, in document 01's order, and
+-- report writes to it, from the start, exactly the records of that tree's faults, each fault once and nothing else, in the order of FORMAT.md, and
 -- the count it returns is the number of those faults. For the same tree the check accepts exactly when there is no fault. Otherwise its answer
 -- is the record of the first fault, the one that the full report begins with, number for number alike."
 pub record Demand3 (t : Tree) (old new : List ℕ) (r : ReportResult) (c : CheckResult) : Type 0 where
@@ -57,8 +57,8 @@ demand-3 text t work work′ old new r c e e′ a b h =
     }
 
 -- ==== Demand 1
--- "every public call takes text and buffers of any content and length, ends, and either answers or gives a refusal [..], which then leaves the
--- output buffer unchanged": the calls have no precondition and end, for each is proved; a refusal leaves the output as it was.
+-- "Every public call takes text and buffers of any content and length, ends, and either answers or gives a refusal, which then leaves the
+-- output buffer unchanged.": the calls have no precondition and end, for each is proved; a refusal leaves the output as it was.
 pub refused-report : (text : Bytes) (work k n : ℕ) (old new : List ℕ) → Reports text work old new (R.Refused k n) → new ≡ old
 refused-report text work k n old new a = go (report text work (length old)) (a .0) (a .1)
   where
@@ -75,7 +75,7 @@ refused-message text work i old new r a unwritten = go (message text work i (len
     go noFault e o = o
     go tooLong e o = o
 
--- "no answer depends on what it held before": two calls on one text, with buffers of the same lengths
+-- "No answer depends on what the work buffer held before.": two calls on one text, with buffers of the same lengths
 pub one-check : (text : Bytes) (work : ℕ) (c d : CheckResult) → Checks text work c → Checks text work d → checkSays c ≡ checkSays d
 one-check text work c d a b = a ∙ sym b
 
@@ -88,7 +88,7 @@ pub one-message : (text : Bytes) (work i : ℕ) (old old′ new new′ : Bytes) 
 one-message text work i old old′ new new′ r q e a b = a .0 ∙ ap (λ n. messageSays (message text work i n)) e ∙ sym (b .0)
 
 -- ==== Demand 2, by proof
--- "The Rust pass decides kind, span and message of the first fault for every tree within document 01's limits": `analyze-with-globals` is its
+-- "The Rust pass decides kind, span and message of the first fault for every tree within the limits": `analyze-with-globals` is its
 -- walk. Check accepts where the Rust has no error, and else has its kind and span; message 0 is its message.
 pub record Demand2 (t : Tree) (old new : Bytes) (c : CheckResult) (m : MessageResult) : Type 0 where
   pub kind-and-span : Says (analyze-with-globals t) (checkSays c)

@@ -54,7 +54,7 @@ each-line : (bs : List Binding) (vs : List Visited) → judge bs vs ≡ [] → A
 each-line bs [] e = none
 each-line bs (v ∷ vs) e = let p = no-end (faultOf bs v) (judge bs vs) e in also (p .0) (each-line bs vs (p .1))
 
--- ---- "What is true of every script that this passes?" No visited line has a fault.
+-- ---- "What is true of every script that the check passes": no visited line has a fault.
 pub passed : (text : Bytes) (work : ℕ) (t : Tree) → reading text work ≡ tree t → Checks text work C.Accepted → All (λ (v : Visited). faultOf (bindings t) v ≡ []) (visited t)
 passed text work t e c = each-line (bindings t) (visited t) (nothing-judged t (none-of (faults t) (sym (c ∙ ap checkOf e))))
 

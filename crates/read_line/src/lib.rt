@@ -1,4 +1,4 @@
-// One line of the tree text: its word, and then the fields that the word's row of document 01's table asks for.
+// One line of the tree text: its word, and then the fields that the word's row of the table asks for.
 use read_fields::Cursor;
 use read_fields::Name;
 use read_fields::Number;

@@ -1,4 +1,4 @@
--- The answers of the calls by their cases: `find` answers by a count or a refusal, and what each call makes of it is what document 01 answers.
+-- The answers of the calls by their cases: `find` answers by a count or a refusal, and what each call makes of it is what is defined.
 use Prim.Native.Nat.{ℕ, _*_, _-_, _<_, _≤_}
 use native.Mathlib.Omega.{arith}
 use mathlib.Core.Path.{_≡_, refl, sym, ap, subst}

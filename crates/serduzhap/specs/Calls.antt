@@ -1,4 +1,4 @@
--- What the public calls promise: for any text, any work buffer, any output buffer and any i. What a code's answer says in document 01's
+-- What the public calls promise: for any text, any work buffer, any output buffer and any i. What a code's answer says in FORMAT.md's
 -- numbers is one definition for each call.
 use Prim.Native.Nat.{ℕ, zero, suc, _+_}
 use mathlib.Core.Path.{_≡_}

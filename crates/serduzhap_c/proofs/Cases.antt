@@ -1,4 +1,4 @@
--- The answers of `report` and `message` in numbers, by their cases: an answer that says what document 01 answers has its numbers.
+-- The answers of `report` and `message` in numbers, by their cases: an answer that says what is defined has its numbers.
 use Prim.Native.Nat.{ℕ}
 use mathlib.Core.Path.{_≡_, refl, sym, ap, _∙_}
 use mathlib.Core.List.{List}

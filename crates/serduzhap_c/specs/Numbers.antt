@@ -1,4 +1,4 @@
--- The answers of the calls as numbers, for C: document 01's number of the refusal or fault, or 0; what goes with it; what is absent is 0.
+-- The answers of the calls as numbers, for C: the number of the refusal or fault, or 0; what goes with it; what is absent is 0.
 use lib.ListN.{length, getD}
 use Rattle.spec_text.specs.Bytes.{Part}
 use Rattle.spec_answers.specs.Answers.{CheckAnswer, accepted, faulty, ReportAnswer, written, MessageAnswer, wrote, noFault, tooLong}

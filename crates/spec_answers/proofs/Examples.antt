@@ -1,4 +1,4 @@
--- Answers by computation: document 01's example of `namecheck`, the examples of its table of refusals and faults from 8 on, and the whole way
+-- Answers by computation: FORMAT.md's first text, the examples of its tables from 8 on, and the whole way
 -- for a script of some 100 lines.
 use Prim.Native.Nat.{ℕ}
 use Prim.Native.String.{String}

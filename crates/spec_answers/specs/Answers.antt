@@ -1,5 +1,5 @@
 -- The answers of the four public calls, as functions of the text's bytes, the length of the work buffer, the length of the output
--- buffer and i. "No answer depends on what [the work buffer] held before": its contents are no argument here, and neither are the output's.
+-- buffer and i. "No answer depends on what the work buffer held before": its contents are no argument here, and neither are the output's.
 use Prim.Native.Nat.{ℕ, zero, suc, _*_}
 use mathlib.Core.Bool.{true, false}
 use mathlib.Core.List.{List, [], _∷_, _++_}
@@ -70,8 +70,8 @@ messageIn i out (refusal k n) = MessageAnswer.refused k n
 abbrev pub message : Bytes → ℕ → ℕ → ℕ → MessageAnswer
 message text work i out = messageIn i out (reading text work)
 
--- ---- "name: the name of fault i is handed back as a part of the tree text. The part is empty for kind 14, for any of refusals 1 to 7 and
--- where no fault i exists."
+-- ---- name: "the name of fault i is handed back as a part of the tree text. The part is empty, at offset 0, for kind 14, for any of refusals
+-- 1 to 7 and where no fault i exists."
 abbrev pub nameOf : Option Fault → Part
 nameOf none = noPart
 nameOf (some f) = f .name

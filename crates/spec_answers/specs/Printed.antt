@@ -7,7 +7,8 @@ use Rattle.spec_text.specs.Reading.{Reading, tree, refusal, reading, shortestWo
 use Rattle.spec_faults.specs.Faults.{Fault, faults, messageOf}
 use Rattle.spec_answers.specs.Answers.{ReportAnswer, written, refused, reported}
 
--- "`fault|9|0|7|Undefined function: prnt` and `faults|1`: kind, start, end, message; then the count"
+-- "prints for each fault `fault`, kind, start, end and message, and then `faults` and the count: fields with a tab between them, lines that end
+-- in LF"
 abbrev pub faultLine : Fault → Bytes
 faultLine f = lineWith "fault" (decimalOf (f .kind) ∷ decimalOf (f .start) ∷ decimalOf (f .end) ∷ messageOf f ∷ [])
 
@@ -15,7 +16,7 @@ abbrev pub faultLines : List Fault → Bytes
 faultLines [] = []
 faultLines (f ∷ fs) = faultLine f ++ faultLines fs
 
--- "A refusal prints `refused|number|line` alone. [..] for 16 it prints `refused|16|count`."
+-- "A refusal prints `refused`, number and line, alone. [..] for 2,341 it prints `refused 16 2341`"
 abbrev pub refusedLine : ℕ → ℕ → Bytes
 refusedLine k n = lineWith "refused" (decimalOf k ∷ decimalOf n ∷ [])
 

@@ -1,4 +1,4 @@
--- The proofs. Theorems states what is proved, for every tree; Scripts has document 01's examples.
+-- The proofs. Theorems states what is proved, for every tree; Scripts has examples, a to k.
 pub mod Theorems
 pub mod Scripts
 pub mod Lists

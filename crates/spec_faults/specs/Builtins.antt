@@ -1,4 +1,4 @@
--- "Thirteen built-in names from src/builtins.rs": a table of names with their lengths.
+-- "The thirteen built-in names", those of the Rust's src/builtins.rs: a table of names with their lengths.
 use Prim.Native.Nat.{ℕ}
 use Prim.Native.String.{String}
 use mathlib.Core.List.{List, [], _∷_, map}

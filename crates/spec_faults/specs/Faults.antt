@@ -112,7 +112,7 @@ pub record Fault : Type 0 where
 abbrev pub is : ℕ → ℕ → ℕ → Fault → Bool
 is k p r f = eqb k (f .kind) && (eqb p (f .place) && eqb r (f .line))
 
--- the fault of a read at a place; "offset and length of the name in the text (for 8 to 13, as it stands in that read)"
+-- the fault of a read at a place; "For 8 to 13 the name is the one that stands in the fault's read."
 abbrev pub faultAt : ℕ → Placed → Placed → Fault
 faultAt k p r =
     record { kind = k; place = p .number; line = r .number; start = p .line .start; end = p .line .end; name = r .line .name; inClass = noPart }
@@ -147,7 +147,7 @@ abbrev pub unless : Bool → Fault → List Fault
 unless true f = []
 unless false f = f ∷ []
 
--- "A read whose name is a parameter of a lambda between it and its home has no fault. Otherwise: Home a def, name own: faulty when not
+-- "A read whose name is a parameter of a lambda between it and its home has no fault. [..] Home a def, name own: faulty when not
 -- assigned. [..] Otherwise: faulty when not in view." The four tests in this order: such a parameter, own, assigned, in view.
 abbrev pub judgeRead : Home → List Placed → Use → Placed → Bool → Bool → Bool → Bool → List Fault
 judgeRead h ls u r true o a v = []

@@ -1,4 +1,4 @@
--- Faults by position (document 01, 'Faults by position'), and the walk of src/semantic/mod.rs.
+-- Faults by position (RULE.md, from 'Terms' on), and the walk of src/semantic/mod.rs.
 pub mod Builtins
 pub mod Position
 pub mod Faults

@@ -42,7 +42,7 @@ define-all (x ∷ xs) st = define-all xs (define x st)
 abbrev pub define-new : Part → ScopeStack → ScopeStack
 define-new x st = cond (is-defined (x .bytes) st) st (define x st)
 
--- ---- errors: the message, as document 01 numbers it, and the span
+-- ---- errors: the message, as FORMAT.md numbers it, and the span
 pub record SemanticError : Type 0 where
   pub kind : ℕ
   pub message : Bytes

@@ -1,5 +1,4 @@
--- Refusals 2 to 7 as one theorem, a table: document 01's examples, the limits of script l met and passed, and the open points that
--- docs/DECISIONS.md settles. By computation. (Texts of 65,536 bytes and of 4,098 lines: the crate `spec_answers`, proofs/Limits.antt.)
+-- Refusals 2 to 7 as one theorem, a table: FORMAT.md's examples, the limits met and passed, and the particulars that it lists. By computation. (Texts of 65,536 bytes and of 4,098 lines: the crate `spec_answers`, proofs/Limits.antt.)
 use Prim.Native.Nat.{ℕ, zero, suc}
 use Prim.Native.String.{String}
 use mathlib.Core.Path.{_≡_, refl}

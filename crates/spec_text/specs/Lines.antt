@@ -1,4 +1,4 @@
--- What a line is: the 29 words, the fields of each, where each is due, and its children. Document 01's table, row by row.
+-- What a line is: the 29 words, the fields of each, where each is due, and its children. FORMAT.md's table, row by row.
 use Prim.Native.Nat.{ℕ, suc, _+_}
 use Prim.Native.String.{String}
 use mathlib.Core.Bool.{Bool, true, false, cond, _&&_}

@@ -1,4 +1,4 @@
--- Reading: which tree a text holds, or how it is refused (refusals 1 to 7, in document 01's order).
+-- Reading: which tree a text holds, or how it is refused (refusals 1 to 7, in the order of FORMAT.md).
 use Prim.Native.Nat.{ℕ, zero, suc, _*_}
 use mathlib.Core.Bool.{Bool, true, false, cond, _&&_}
 use mathlib.Core.List.{List, [], _∷_}
@@ -10,7 +10,7 @@ use Rattle.spec_text.specs.Tree.{Expr, Exprs, Attrs, Stmt, Stmts, Method
 use Rattle.spec_text.specs.Lines.{StmtForm, ExprForm, Form, Cut, cut, Parsed, parse, countAt, asStmt, asExpr, asSort}
 
 -- ---- limits
--- "65,536 bytes; 4,096 lines after the first; depth 64; [..] work buffer of at least 16,384 numbers"; "0 to 16 names"
+-- "65,536 bytes, 4,096 lines after the first, depth 64, 16 parameters; a work buffer of 16,384 numbers"
 abbrev pub longestText : ℕ
 longestText = 65_536
 

@@ -1,4 +1,4 @@
--- "Thirteen built-in names from src/builtins.rs": the number of a name, and the rule of the tables that hold the names.
+-- "The thirteen built-in names": the number of a name, and the rule of the tables that hold the names.
 use Prim.Native.Nat.{ℕ, suc, _+_}
 use mathlib.Core.Path.{_≡_}
 use mathlib.Core.Bool.{true, false}
@@ -28,7 +28,7 @@ abbrev pub total : List ℕ → ℕ
 total [] = 0
 total (n ∷ ns) = n + total ns
 
--- "a table of names with their lengths": the lengths cut the bytes into the names, and no byte is left over; they are the table's, and each is
+-- a table of names with their lengths: the lengths cut the bytes into the names, and no byte is left over; they are the table's, and each is
 -- its name's
 pub record Rule (lengths bytes : List ℕ) : Type 0 where
   pub cut : cutBy lengths bytes ≡ names

@@ -1,4 +1,4 @@
--- "The stack of scopes has push, pop, define and is_defined": which marks it sets and asks for. A scope is known by the row after its block.
+-- The stack of scopes has push, pop, define and is_defined: which marks it sets and asks for. A scope is known by the row after its block.
 use Prim.Native.Nat.{ℕ}
 use mathlib.Core.Bool.{Bool, cond, _&&_}
 use mathlib.Core.List.{List}
