@@ -58,7 +58,8 @@ fn number_by(bytes: &[u8], lengths: &[u8], name: &[u8]) -> usize
     find_in(bytes, lengths, name)
 }
 
-// The number of a built-in name, in the table's order from 0; 13 for any other name.
+// The number of a built-in name, in the table's order from 0; 13 for any other name. The walk binds the names of the table and asks for
+// no number: this and `is_builtin` are membership proved over the table, for whoever asks next (argument counts).
 pub fn number_of(name: &[u8]) -> usize
     ensures { λ r. ⌜ r ≡ numberOf (now (name .entry)) ⌝ }
 {

@@ -1,5 +1,7 @@
 // The walk over the rows of a tree: statements, lists of statements, expressions and lists of expressions call each other, and the number of
 // lines left falls at each call. Names are marked where they are bound, and the kind of a row's fault goes to its slot.
+// `left` is the number of rows at the start, and one less at each level. The lines around a line are other rows, one a level: so a line
+// of a tree that was read is never met with none left. The test for 0 is there so that the walk ends on any numbers.
 use spec_faults::fault_kind;
 use spec_text::line_kind;
 use walk_scopes::HOME_DEF;
