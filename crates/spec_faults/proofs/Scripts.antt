@@ -101,42 +101,86 @@ scripts-hold j = refl
 scripts-hold k = refl
 
 -- ---- further scripts: a rule each that a to k do not touch
-abbrev pub further : List Script
-further =
-    -- in a def, a `for` name is assigned
-    script "tree\t1\t1\nglobal\tr\ndef\t0\t30\tf\t1\nfor\t9\t29\ti\t1\nvar\t18\t19\tr\nexpr\t25\t26\nvar\t25\t26\ti\n" [] none
-    -- a name bound by def in a def's block does not count, and is own before and after
-    ∷ script "tree\t0\t1\ndef\t0\t40\tf\t2\nexpr\t10\t11\nvar\t10\t11\tg\ndef\t14\t30\tg\t0\n" (11 ∷ 10 ∷ 11 ∷ 43 ∷ 1 ∷ 0 ∷ 0 ∷ []) (rust 11 10 11 "Unbound local variable: g")
-    -- one capture for a lambda and a name: lambda: p + p
-    ∷ script "tree\t0\t1\nexpr\t0\t13\nlambda\t0\t13\nbin\t8\t13\nvar\t8\t9\tp\nvar\t12\t13\tp\n" (10 ∷ 0 ∷ 13 ∷ 48 ∷ 1 ∷ 0 ∷ 0 ∷ []) (rust 10 0 13 "Undefined variable 'p' captured by lambda")
-    -- unvisited: under an attr
-    ∷ script "tree\t0\t1\nclass\t0\t20\tC\t0\t1\nattr\ta\nvar\t9\t10\tq\n" [] none
-    -- unvisited: under a class in a def, also under an if; its name is bound there, and own
-    ∷ script "tree\t0\t1\ndef\t0\t60\tf\t2\nif\t9\t40\t1\t0\t0\nlit\t12\t13\nclass\t15\t40\tC\t1\t0\nmethod\tm\t1\nexpr\t30\t31\nvar\t30\t31\tq\nexpr\t50\t51\nvar\t50\t51\tC\n" (11 ∷ 50 ∷ 51 ∷ 119 ∷ 1 ∷ 0 ∷ 0 ∷ []) (rust 11 50 51 "Unbound local variable: C")
-    -- a method without self, then its body
-    ∷ script "tree\t0\t1\nclass\t0\t30\tC\t2\t0\nmethod\tm\t1\nexpr\t20\t21\nvar\t20\t21\tq\nmethod\tn\t0\tthis\tself\n" (15 ∷ 0 ∷ 30 ∷ 33 ∷ 1 ∷ 20 ∷ 1 ∷ 8 ∷ 20 ∷ 21 ∷ 58 ∷ 1 ∷ 0 ∷ 0 ∷ 15 ∷ 0 ∷ 30 ∷ 67 ∷ 1 ∷ 20 ∷ 1 ∷ []) (rust 15 0 30 "Method 'm' in class 'C' must have 'self' as first parameter")
-    -- unvisited: under a refused target, in a tuple; the reads of get and index are judged
-    ∷ script "tree\t0\t1\nassign\t0\t30\nlit\t28\t29\ntuple\t0\t20\t4\nbin\t1\t4\nvar\t1\t2\tu\nvar\t3\t4\tv\nget\t6\t9\tm\nvar\t6\t7\ty\nindex\t11\t15\nvar\t11\t12\tb\nvar\t13\t14\tc\nvar\t17\t18\tw\n" (14 ∷ 1 ∷ 4 ∷ 0 ∷ 0 ∷ 0 ∷ 0 ∷ 8 ∷ 6 ∷ 7 ∷ 90 ∷ 1 ∷ 0 ∷ 0 ∷ 8 ∷ 11 ∷ 12 ∷ 114 ∷ 1 ∷ 0 ∷ 0 ∷ 8 ∷ 13 ∷ 14 ∷ 126 ∷ 1 ∷ 0 ∷ 0 ∷ []) (rust 14 1 4 "Invalid assignment target: cannot assign to literal, call, or expression")
-    -- a callee is a var that is the first child of a call: y() and y.m()
-    ∷ script "tree\t0\t2\nexpr\t0\t3\ncall\t0\t3\t0\nvar\t0\t1\ty\nexpr\t5\t10\ncall\t5\t10\t0\nget\t5\t8\tm\nvar\t5\t6\ty\n" (9 ∷ 0 ∷ 3 ∷ 37 ∷ 1 ∷ 0 ∷ 0 ∷ 8 ∷ 5 ∷ 6 ∷ 79 ∷ 1 ∷ 0 ∷ 0 ∷ []) (rust 9 0 3 "Undefined function: y")
-    -- in a def: x(), x, then x = 1
-    ∷ script "tree\t0\t1\ndef\t0\t40\tf\t3\nexpr\t10\t13\ncall\t10\t13\t0\nvar\t10\t11\tx\nexpr\t15\t16\nvar\t15\t16\tx\nassign\t20\t25\nlit\t24\t25\nvar\t20\t21\tx\n" (12 ∷ 10 ∷ 13 ∷ 56 ∷ 1 ∷ 0 ∷ 0 ∷ 11 ∷ 15 ∷ 16 ∷ 79 ∷ 1 ∷ 0 ∷ 0 ∷ []) (rust 12 10 13 "Unbound local function: x")
-    -- globals and built-ins are given; list is no built-in
-    ∷ script "tree\t1\t1\nglobal\tg\nexpr\t0\t20\ntuple\t0\t20\t3\nvar\t1\t2\tg\nvar\t4\t9\tprint\nvar\t11\t15\tlist\n" (8 ∷ 11 ∷ 15 ∷ 75 ∷ 4 ∷ 0 ∷ 0 ∷ []) (rust 8 11 15 "Undefined variable: list")
-    -- a def reads what the module binds before it, and not what it binds after
-    ∷ script "tree\t0\t3\nassign\t0\t5\nlit\t4\t5\nvar\t0\t1\ta\ndef\t6\t30\tf\t1\nreturn\t15\t23\nbin\t20\t25\nvar\t20\t21\ta\nvar\t24\t25\tz\nassign\t31\t36\nlit\t35\t36\nvar\t31\t32\tz\n" (8 ∷ 24 ∷ 25 ∷ 96 ∷ 1 ∷ 0 ∷ 0 ∷ []) (rust 8 24 25 "Undefined variable: z")
-    -- parameters of the lambdas between: lambda p: (lambda: p + q)
-    ∷ script "tree\t0\t1\nexpr\t0\t25\nlambda\t0\t25\tp\nlambda\t10\t25\nbin\t18\t23\nvar\t18\t19\tp\nvar\t22\t23\tq\n" (10 ∷ 0 ∷ 25 ∷ 78 ∷ 1 ∷ 0 ∷ 0 ∷ []) (rust 10 0 25 "Undefined variable 'q' captured by lambda")
-    -- under a lambda in a method, where it stands: lambda: q() + r
-    ∷ script "tree\t0\t1\nclass\t0\t50\tC\t1\t0\nmethod\tm\t1\tself\nexpr\t20\t35\nlambda\t20\t35\nbin\t28\t35\ncall\t28\t31\t0\nvar\t28\t29\tq\nvar\t34\t35\tr\n" (9 ∷ 28 ∷ 31 ∷ 99 ∷ 1 ∷ 0 ∷ 0 ∷ 8 ∷ 34 ∷ 35 ∷ 111 ∷ 1 ∷ 0 ∷ 0 ∷ []) (rust 9 28 31 "Undefined function: q")
-    -- an if is no block: if .. elif: x = 1 else: x
-    ∷ script "tree\t0\t1\nif\t0\t40\t0\t1\t1\nlit\t3\t4\nelif\t1\nlit\t11\t12\nassign\t15\t20\nlit\t19\t20\nvar\t15\t16\tx\nexpr\t30\t31\nvar\t30\t31\tx\n" [] none
-    -- two defs in each other: the inner one's own name hides the outer's
-    ∷ script "tree\t0\t1\ndef\t0\t60\tf\t1\tn\ndef\t10\t50\tg\t2\nexpr\t20\t21\nvar\t20\t21\tn\nassign\t30\t35\nlit\t34\t35\nvar\t30\t31\tn\n" (11 ∷ 20 ∷ 21 ∷ 59 ∷ 1 ∷ 0 ∷ 0 ∷ []) (rust 11 20 21 "Unbound local variable: n")
-    ∷ []
+pub data Further : Type 0 where
+  for-assigned : Further
+  def-does-not-count : Further
+  captured-once : Further
+  under-attr : Further
+  class-in-def : Further
+  without-self : Further
+  under-refused : Further
+  callees : Further
+  unbound : Further
+  given : Further
+  module-before-def : Further
+  params-between : Further
+  lambda-in-method : Further
+  if-is-no-block : Further
+  inner-hides : Further
 
-pub further-hold : map (λ (r : Script). outcome (r .text)) further ≡ map (λ (r : Script). r .is) further
-further-hold = refl
+abbrev pub further : Further → Script
+-- in a def, a `for` name is assigned
+further for-assigned =
+    script "tree\t1\t1\nglobal\tr\ndef\t0\t30\tf\t1\nfor\t9\t29\ti\t1\nvar\t18\t19\tr\nexpr\t25\t26\nvar\t25\t26\ti\n" [] none
+-- a name bound by def in a def's block does not count, and is own before and after
+further def-does-not-count =
+    script "tree\t0\t1\ndef\t0\t40\tf\t2\nexpr\t10\t11\nvar\t10\t11\tg\ndef\t14\t30\tg\t0\n" (11 ∷ 10 ∷ 11 ∷ 43 ∷ 1 ∷ 0 ∷ 0 ∷ []) (rust 11 10 11 "Unbound local variable: g")
+-- one capture for a lambda and a name: lambda: p + p
+further captured-once =
+    script "tree\t0\t1\nexpr\t0\t13\nlambda\t0\t13\nbin\t8\t13\nvar\t8\t9\tp\nvar\t12\t13\tp\n" (10 ∷ 0 ∷ 13 ∷ 48 ∷ 1 ∷ 0 ∷ 0 ∷ []) (rust 10 0 13 "Undefined variable 'p' captured by lambda")
+-- unvisited: under an attr
+further under-attr =
+    script "tree\t0\t1\nclass\t0\t20\tC\t0\t1\nattr\ta\nvar\t9\t10\tq\n" [] none
+-- unvisited: under a class in a def, also under an if; its name is bound there, and own
+further class-in-def =
+    script "tree\t0\t1\ndef\t0\t60\tf\t2\nif\t9\t40\t1\t0\t0\nlit\t12\t13\nclass\t15\t40\tC\t1\t0\nmethod\tm\t1\nexpr\t30\t31\nvar\t30\t31\tq\nexpr\t50\t51\nvar\t50\t51\tC\n" (11 ∷ 50 ∷ 51 ∷ 119 ∷ 1 ∷ 0 ∷ 0 ∷ []) (rust 11 50 51 "Unbound local variable: C")
+-- a method without self, then its body
+further without-self =
+    script "tree\t0\t1\nclass\t0\t30\tC\t2\t0\nmethod\tm\t1\nexpr\t20\t21\nvar\t20\t21\tq\nmethod\tn\t0\tthis\tself\n" (15 ∷ 0 ∷ 30 ∷ 33 ∷ 1 ∷ 20 ∷ 1 ∷ 8 ∷ 20 ∷ 21 ∷ 58 ∷ 1 ∷ 0 ∷ 0 ∷ 15 ∷ 0 ∷ 30 ∷ 67 ∷ 1 ∷ 20 ∷ 1 ∷ []) (rust 15 0 30 "Method 'm' in class 'C' must have 'self' as first parameter")
+-- unvisited: under a refused target, in a tuple; the reads of get and index are judged
+further under-refused =
+    script "tree\t0\t1\nassign\t0\t30\nlit\t28\t29\ntuple\t0\t20\t4\nbin\t1\t4\nvar\t1\t2\tu\nvar\t3\t4\tv\nget\t6\t9\tm\nvar\t6\t7\ty\nindex\t11\t15\nvar\t11\t12\tb\nvar\t13\t14\tc\nvar\t17\t18\tw\n" (14 ∷ 1 ∷ 4 ∷ 0 ∷ 0 ∷ 0 ∷ 0 ∷ 8 ∷ 6 ∷ 7 ∷ 90 ∷ 1 ∷ 0 ∷ 0 ∷ 8 ∷ 11 ∷ 12 ∷ 114 ∷ 1 ∷ 0 ∷ 0 ∷ 8 ∷ 13 ∷ 14 ∷ 126 ∷ 1 ∷ 0 ∷ 0 ∷ []) (rust 14 1 4 "Invalid assignment target: cannot assign to literal, call, or expression")
+-- a callee is a var that is the first child of a call: y() and y.m()
+further callees =
+    script "tree\t0\t2\nexpr\t0\t3\ncall\t0\t3\t0\nvar\t0\t1\ty\nexpr\t5\t10\ncall\t5\t10\t0\nget\t5\t8\tm\nvar\t5\t6\ty\n" (9 ∷ 0 ∷ 3 ∷ 37 ∷ 1 ∷ 0 ∷ 0 ∷ 8 ∷ 5 ∷ 6 ∷ 79 ∷ 1 ∷ 0 ∷ 0 ∷ []) (rust 9 0 3 "Undefined function: y")
+-- in a def: x(), x, then x = 1
+further unbound =
+    script "tree\t0\t1\ndef\t0\t40\tf\t3\nexpr\t10\t13\ncall\t10\t13\t0\nvar\t10\t11\tx\nexpr\t15\t16\nvar\t15\t16\tx\nassign\t20\t25\nlit\t24\t25\nvar\t20\t21\tx\n" (12 ∷ 10 ∷ 13 ∷ 56 ∷ 1 ∷ 0 ∷ 0 ∷ 11 ∷ 15 ∷ 16 ∷ 79 ∷ 1 ∷ 0 ∷ 0 ∷ []) (rust 12 10 13 "Unbound local function: x")
+-- globals and built-ins are given; list is no built-in
+further given =
+    script "tree\t1\t1\nglobal\tg\nexpr\t0\t20\ntuple\t0\t20\t3\nvar\t1\t2\tg\nvar\t4\t9\tprint\nvar\t11\t15\tlist\n" (8 ∷ 11 ∷ 15 ∷ 75 ∷ 4 ∷ 0 ∷ 0 ∷ []) (rust 8 11 15 "Undefined variable: list")
+-- a def reads what the module binds before it, and not what it binds after
+further module-before-def =
+    script "tree\t0\t3\nassign\t0\t5\nlit\t4\t5\nvar\t0\t1\ta\ndef\t6\t30\tf\t1\nreturn\t15\t23\nbin\t20\t25\nvar\t20\t21\ta\nvar\t24\t25\tz\nassign\t31\t36\nlit\t35\t36\nvar\t31\t32\tz\n" (8 ∷ 24 ∷ 25 ∷ 96 ∷ 1 ∷ 0 ∷ 0 ∷ []) (rust 8 24 25 "Undefined variable: z")
+-- parameters of the lambdas between: lambda p: (lambda: p + q)
+further params-between =
+    script "tree\t0\t1\nexpr\t0\t25\nlambda\t0\t25\tp\nlambda\t10\t25\nbin\t18\t23\nvar\t18\t19\tp\nvar\t22\t23\tq\n" (10 ∷ 0 ∷ 25 ∷ 78 ∷ 1 ∷ 0 ∷ 0 ∷ []) (rust 10 0 25 "Undefined variable 'q' captured by lambda")
+-- under a lambda in a method, where it stands: lambda: q() + r
+further lambda-in-method =
+    script "tree\t0\t1\nclass\t0\t50\tC\t1\t0\nmethod\tm\t1\tself\nexpr\t20\t35\nlambda\t20\t35\nbin\t28\t35\ncall\t28\t31\t0\nvar\t28\t29\tq\nvar\t34\t35\tr\n" (9 ∷ 28 ∷ 31 ∷ 99 ∷ 1 ∷ 0 ∷ 0 ∷ 8 ∷ 34 ∷ 35 ∷ 111 ∷ 1 ∷ 0 ∷ 0 ∷ []) (rust 9 28 31 "Undefined function: q")
+-- an if is no block: if .. elif: x = 1 else: x
+further if-is-no-block =
+    script "tree\t0\t1\nif\t0\t40\t0\t1\t1\nlit\t3\t4\nelif\t1\nlit\t11\t12\nassign\t15\t20\nlit\t19\t20\nvar\t15\t16\tx\nexpr\t30\t31\nvar\t30\t31\tx\n" [] none
+-- two defs in each other: the inner one's own name hides the outer's
+further inner-hides =
+    script "tree\t0\t1\ndef\t0\t60\tf\t1\tn\ndef\t10\t50\tg\t2\nexpr\t20\t21\nvar\t20\t21\tn\nassign\t30\t35\nlit\t34\t35\nvar\t30\t31\tn\n" (11 ∷ 20 ∷ 21 ∷ 59 ∷ 1 ∷ 0 ∷ 0 ∷ []) (rust 11 20 21 "Unbound local variable: n")
+
+pub further-hold : (f : Further) → outcome (further f .text) ≡ further f .is
+further-hold for-assigned = refl
+further-hold def-does-not-count = refl
+further-hold captured-once = refl
+further-hold under-attr = refl
+further-hold class-in-def = refl
+further-hold without-self = refl
+further-hold under-refused = refl
+further-hold callees = refl
+further-hold unbound = refl
+further-hold given = refl
+further-hold module-before-def = refl
+further-hold params-between = refl
+further-hold lambda-in-method = refl
+further-hold if-is-no-block = refl
+further-hold inner-hides = refl
 
 -- ---- the table of built-in names: thirteen, each with its length
 pub builtin-lengths : map (λ (b : Builtin). b .len) builtins ≡ map (λ (b : Builtin). length (b .name)) builtins
