@@ -87,7 +87,8 @@ fn mixed(h: usize, b: u8) -> usize
     (h * 1597 + read_bytes::wide(b)) % 4096
 }
 
-fn refused_cursor() -> Cursor
+// The cursor that takes nothing any more.
+pub fn refused_cursor() -> Cursor
     ensures { λ r. ⌜ r ≡ refused ⌝ }
 {
     Cursor {

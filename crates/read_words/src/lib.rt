@@ -52,14 +52,9 @@ fn or_word(k: Kind, n: usize, c: Cursor, text: &[u8], word: &[u8]) -> Kind
 fn no_kind() -> Kind
     ensures { λ r. ⌜ r ≡ noKind ⌝ }
 {
-    let c = Cursor {
-        at: 0,
-        more: false,
-        ok: false,
-    };
     Kind {
         kind: line_kind::COUNT, // none
-        next: c,
+        next: read_fields::refused_cursor(),
     }
 }
 

@@ -14,6 +14,15 @@ use serduzhap::ReportResult;
 use test_frames::Step;
 ghost use Prim.Native.Nat.{_<_};
 
+// The letters of calls: c, p, q, m; any other is n.
+const CHECK: usize = 99;
+
+const REPORT: usize = 112;
+
+const REPORT_ZEROS: usize = 113;
+
+const MESSAGE: usize = 109;
+
 fn narrow(n: usize) -> u32 {
     (n % 4294967296) as u32
 }
@@ -133,10 +142,10 @@ fn call(
     let k = test_frames::least(b, out.len());
     let m = test_frames::least(b, bytes.len());
     match letter {
-        99 => check(text, &mut work[0..n], narrow(b)),
-        112 => report(text, &mut work[0..n], &mut out[0..k], 4294967295),
-        113 => report(text, &mut work[0..n], &mut out[0..k], 0),
-        109 => message(text, work, a, &mut bytes[0..m]),
+        CHECK => check(text, &mut work[0..n], narrow(b)),
+        REPORT => report(text, &mut work[0..n], &mut out[0..k], 4294967295),
+        REPORT_ZEROS => report(text, &mut work[0..n], &mut out[0..k], 0),
+        MESSAGE => message(text, work, a, &mut bytes[0..m]),
         _ => name(text, work, a),
     }
 }
@@ -158,11 +167,11 @@ fn frame(
     let from = s.at + 9;
     let end = from + b;
     match test_frames::byte_at(all, s.at) {
-        116 => Step {
+        test_frames::TEXT => Step {
             at: end,
             len: test_frames::copy(all, from, end, text, 0),
         },
-        114 => Step {
+        test_frames::REPEAT => Step {
             at: end,
             len: test_frames::copies(all, from, end, a, text, s.len),
         },

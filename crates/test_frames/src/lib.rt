@@ -3,6 +3,11 @@ use libc::STDOUT_FILENO;
 ghost use Prim.Native.Nat.{_≤_, _<_};
 ghost use lib.ListN.{length};
 
+// The letters of the frames that make a text: t, these bytes; r, copies of these bytes more.
+pub const TEXT: usize = 116;
+
+pub const REPEAT: usize = 114;
+
 // Where the next frame is, and how long the text is.
 pub struct Step {
     pub at: usize,

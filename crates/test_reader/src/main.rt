@@ -10,6 +10,11 @@ use read_tree::Read;
 use test_frames::Step;
 ghost use Prim.Native.Nat.{_+_, _<_};
 
+// The letters of runs: w and j; any other is b.
+const WHOLE: usize = 119;
+
+const JOINED: usize = 106;
+
 // A sum over the rows.
 fn sum_of(work: &[u32], lines: usize) -> usize {
     let mut sum: usize = 0;
@@ -92,22 +97,22 @@ fn frame(all: &[u8], s: Step, text: &mut [u8], work: &mut [u32]) -> Step
     let from = s.at + 9;
     let end = from + b;
     match test_frames::byte_at(all, s.at) {
-        116 => Step {
+        test_frames::TEXT => Step {
             at: end,
             len: test_frames::copy(all, from, end, text, 0),
         },
-        114 => Step {
+        test_frames::REPEAT => Step {
             at: end,
             len: test_frames::copies(all, from, end, a, text, s.len),
         },
-        119 => {
+        WHOLE => {
             whole(test_frames::first(text, s.len), work, a);
             Step {
                 at: from,
                 len: s.len,
             }
         }
-        106 => {
+        JOINED => {
             joined(test_frames::first(text, s.len), a, b, work);
             Step {
                 at: from,
