@@ -1,7 +1,7 @@
 /* Serduzhap: a name check with a proof. The four calls over a tree text and a work buffer of 32-bit numbers.
  *
  * Each takes any bytes and any buffers, of any length and content, ends, and either answers or refuses. The work buffer has to have
- * 16,384 numbers, or the call is refused; what it holds after a call is free. A refusal leaves the output as it was. The calls keep
+ * 16,384 numbers, or the call is refused; what it holds after a call is unspecified. A refusal leaves the output as it was. The calls keep
  * nothing between them, use no heap, and call no other code. */
 #ifndef SERDUZHAP_H
 #define SERDUZHAP_H

@@ -38,7 +38,7 @@ abbrev pub foundAnswer : Reading → Answer
 foundAnswer (tree t) = A.Faults (length (faults t))
 foundAnswer (refusal k n) = A.Refused k n
 
--- of a text that is refused, the work buffer is free; a tree's text has at most 65,536 bytes, and it has at most 4,096 faults
+-- of a text that is refused, the work buffer is unspecified; a tree's text has at most 65,536 bytes, and it has at most 4,096 faults
 abbrev pub Kept : Bytes → Reading → List ℕ → Type 0
 Kept text (tree t) w = Listed text (faults t) w × ((length text < 65_537) × (length (faults t) < 4_097))
 Kept text (refusal k n) w = Unit

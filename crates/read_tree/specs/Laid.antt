@@ -51,7 +51,7 @@ abbrev pub answerOf : Reading → Read
 answerOf (tree t) = R.Tree (length (t .globals)) (length (rowsT t))
 answerOf (refusal k n) = R.Refused k n
 
--- of a text that is refused, the work buffer is free
+-- of a text that is refused, the work buffer is unspecified
 abbrev pub Kept : Bytes → Reading → List ℕ → Type 0
 Kept text (tree t) w = Holds text (rowsT t) w
 Kept text (refusal k n) w = Unit
