@@ -10,9 +10,10 @@ Each wrong copy is one edit; with it the comparison is built anew in target/wron
 and run until the first difference.  A wrong library is the built one behind a call
 that spoils its answer or its buffers.  Says for each which command noticed it, after
 how many trees or texts and in which time; exits with 1 if one was not noticed.
-Python 3, standard library only; needs rt, rustc, cc and objcopy.
+Python 3, standard library only; needs rt, cargo, cc, ar and objcopy.
 """
 
+import os
 import re
 import shutil
 import subprocess
@@ -21,133 +22,226 @@ import time
 from pathlib import Path
 
 ROOT = Path(__file__).resolve().parent.parent
-WRONG = ROOT / 'target' / 'wrong'
+COPIES = ROOT / 'target' / 'wrong' / 'copies'
+BUILT = ROOT / 'target' / 'wrong' / 'cargo'
+LIBRARY = ROOT / 'target' / 'staticlib' / 'libserduzhap_c.a'
 MOD, SCOPE, BUILTINS = 'semantic/mod.rs', 'semantic/scope.rs', 'builtins.rs'
+FILES = (MOD, SCOPE, BUILTINS, 'parser/ast.rs')
 
-# what is wrong, the file, the original's text (the first place), and what stands there instead
+# the most trees or texts that a wrong copy is tried with
+MOST = 1000000
+
+# what is wrong and in which file; the original's text, the first place of it; what stands there instead
 RULES = [
-    ('a for name is no own name', MOD, 'locals.insert(var.clone());', ''),
-    ('a def name is no own name', MOD, '''Stmt::Def { name, .. } => {
-                locals.insert(name.clone());''', '''Stmt::Def { .. } => {'''),
-    ('a class name is no own name', MOD, '''Stmt::Class { name, .. } => {
-                locals.insert(name.clone());''', '''Stmt::Class { .. } => {'''),
-    ('names in a tuple target are no own names', MOD, 'collect_locals_from_target(&elem.0, locals);', ''),
-    ('names bound in an elif are no own names', MOD, '''for (_, block) in elif_blocks {
-                    collect_locals(block, locals);''', '''for (_, block) in elif_blocks {
-                    let _ = block;'''),
-    ('own names are the parameters', MOD, 'collect_locals(body, &mut locals);', ''),
-    ('a def counts as assigned', MOD, '''            inner_ctx.functions.insert(name.clone(), params.len());''',
-     '''            assigned.insert(name.clone()); inner_ctx.functions.insert(name.clone(), params.len());'''),
-    ('a class in a def counts as assigned', MOD, '''        Stmt::Class { name, .. } => {
-            // ''', '''        Stmt::Class { name, .. } => {
-            assigned.insert(name.clone()); // '''),
-    ('a for name does not count as assigned', MOD, 'if locals.contains(var) {\n                assigned.insert(var.clone());', 'if locals.contains(var) {'),
-    ('a method has own names like a def', MOD, 'let locals: HashSet<String> = method.params.iter().cloned().collect();',
-     'let mut locals: HashSet<String> = method.params.iter().cloned().collect(); collect_locals(&method.body, &mut locals);'),
-    ('a for name is bound before its iterable, in the module', MOD, '''            analyze_expr_module(iterable, scopes, ctx)?;
-''', '''            scopes.define(var.clone()); analyze_expr_module(iterable, scopes, ctx)?;
-'''),
-    ('a target is bound before the value', MOD, 'analyze_expr_module(value, scopes, ctx)?;',
+    ('a for name is no own name', MOD,
+     'locals.insert(var.clone());',
+     ''),
+    ('a def name is no own name', MOD,
+     'Stmt::Def { name, .. } => {\n'
+     '                locals.insert(name.clone());',
+     'Stmt::Def { .. } => {'),
+    ('a class name is no own name', MOD,
+     'Stmt::Class { name, .. } => {\n'
+     '                locals.insert(name.clone());',
+     'Stmt::Class { .. } => {'),
+    ('names in a tuple target are no own names', MOD,
+     'collect_locals_from_target(&elem.0, locals);',
+     ''),
+    ('names bound in an elif are no own names', MOD,
+     'for (_, block) in elif_blocks {\n'
+     '                    collect_locals(block, locals);',
+     'for (_, block) in elif_blocks {\n'
+     '                    let _ = block;'),
+    ('own names are the parameters', MOD,
+     'collect_locals(body, &mut locals);',
+     ''),
+    ('a def counts as assigned', MOD,
+     '            inner_ctx.functions.insert(name.clone(), params.len());',
+     '            assigned.insert(name.clone()); inner_ctx.functions.insert(name.clone(), params.len());'),
+    ('a class in a def counts as assigned', MOD,
+     '        Stmt::Class { name, .. } => {\n'
+     '            // ',
+     '        Stmt::Class { name, .. } => {\n'
+     '            assigned.insert(name.clone()); // '),
+    ('a for name does not count as assigned', MOD,
+     'if locals.contains(var) {\n'
+     '                assigned.insert(var.clone());',
+     'if locals.contains(var) {'),
+    ('a method has own names like a def', MOD,
+     'let locals: HashSet<String> = method.params.iter().cloned().collect();',
+     'let mut locals: HashSet<String> = method.params.iter().cloned().collect(); collect_locals(&method.body, '
+     '&mut locals);'),
+    ('a for name is bound before its iterable, in the module', MOD,
+     '            analyze_expr_module(iterable, scopes, ctx)?;\n',
+     '            scopes.define(var.clone()); analyze_expr_module(iterable, scopes, ctx)?;\n'),
+    ('a target is bound before the value', MOD,
+     'analyze_expr_module(value, scopes, ctx)?;',
      'if let Expr::Variable(n) = &target.0 { scopes.define(n.clone()); } analyze_expr_module(value, scopes, ctx)?;'),
-    ('a function\'s name is not bound in the module', MOD, '''            scopes.define(name.clone());
-            ctx.functions''', '''            ctx.functions'''),
-    ('what a function binds stays in view', MOD, '''    scopes.pop();
-    // ''', '''    // '''),
-    ('a method\'s names stay in view', MOD, '''                scopes.pop();
-            }
-
-            Ok(())''', '''            }
-
-            Ok(())'''),
-    ('a lambda\'s parameters stay in view, in the module', MOD, '''            analyze_expr_module(body, scopes, ctx)?;
-            scopes.pop();''', '''            analyze_expr_module(body, scopes, ctx)?;'''),
-    ('a lambda\'s captures are not looked at first, in the module', MOD, 'collect_free_vars(body, params, &mut free_vars);',
+    ("a function's name is not bound in the module", MOD,
+     '            scopes.define(name.clone());\n'
+     '            ctx.functions',
+     '            ctx.functions'),
+    ('what a function binds stays in view', MOD,
+     '    scopes.pop();\n'
+     '    // ',
+     '    // '),
+    ("a method's names stay in view", MOD,
+     '                scopes.pop();\n'
+     '            }\n'
+     '\n'
+     '            Ok(())',
+     '            }\n'
+     '\n'
+     '            Ok(())'),
+    ("a lambda's parameters stay in view, in the module", MOD,
+     '            analyze_expr_module(body, scopes, ctx)?;\n'
+     '            scopes.pop();',
+     '            analyze_expr_module(body, scopes, ctx)?;'),
+    ("a lambda's captures are not looked at first, in the module", MOD,
+     'collect_free_vars(body, params, &mut free_vars);',
      'if false { collect_free_vars(body, params, &mut free_vars); }'),
-    ('parameters of a lambda in a lambda are captured', MOD, 'collect_free_vars(body, inner_params, &mut inner_free_vars);',
+    ('parameters of a lambda in a lambda are captured', MOD,
+     'collect_free_vars(body, inner_params, &mut inner_free_vars);',
      'let _ = inner_params; collect_free_vars(body, &Vec::new(), &mut inner_free_vars);'),
-    ('parameters of the outer lambda are captured by the inner', MOD, '''                if !params.contains(&var) {
-                    free_vars.insert(var);''', '''                {
-                    free_vars.insert(var);'''),
-    ('a lambda\'s captures in a def are blamed on the read', MOD, '''"Unbound local variable '{}' captured by lambda", var),
-                        span: expr.1.clone(),''', '''"Unbound local variable '{}' captured by lambda", var),
-                        span: body.1.clone(),'''),
-    ('a lambda\'s body in a def keeps the own names', MOD, 'analyze_expr_function(body, scopes, ctx, &lambda_locals, &lambda_locals)?;',
+    ('parameters of the outer lambda are captured by the inner', MOD,
+     '                if !params.contains(&var) {\n'
+     '                    free_vars.insert(var);',
+     '                {\n'
+     '                    free_vars.insert(var);'),
+    ("a lambda's captures in a def are blamed on the read", MOD,
+     '"Unbound local variable \'{}\' captured by lambda", var),\n'
+     '                        span: expr.1.clone(),',
+     '"Unbound local variable \'{}\' captured by lambda", var),\n'
+     '                        span: body.1.clone(),'),
+    ("a lambda's body in a def keeps the own names", MOD,
+     'analyze_expr_function(body, scopes, ctx, &lambda_locals, &lambda_locals)?;',
      'let _ = lambda_locals; analyze_expr_function(body, scopes, ctx, locals, assigned)?;'),
-    ('an undefined function is blamed on its name', MOD, '''"Undefined function: {}", name),
-                        span: expr.1.clone(),''', '''"Undefined function: {}", name),
-                        span: func_name.1.clone(),'''),
-    ('an unbound callee is called a variable', MOD, '"Unbound local function: {}"', '"Unbound local variable: {}"'),
-    ('arguments are not read, in a def', MOD, '''            for a in args {
-                analyze_expr_function(a, scopes, ctx, locals, assigned)?;''', '''            for a in args {
-                let _ = a;'''),
-    ('values of a dict are not read, in the module', MOD, 'analyze_expr_module(value, scopes, ctx)?;\n            }', '}'),
-    ('an index is not read, in a def', MOD, 'analyze_expr_function(index, scopes, ctx, locals, assigned)?;', ''),
-    ('an element that is assigned to is not read', MOD, '''        Expr::Attribute { .. } | Expr::Index { .. } => {
-            analyze_expr_module(target, scopes, ctx)''', '''        Expr::Attribute { .. } | Expr::Index { .. } => {
-            Ok(())'''),
-    ('a list may be assigned to', MOD, 'Expr::Literal(_) | Expr::Call { .. } |', 'Expr::List(_) => Ok(()), Expr::Literal(_) | Expr::Call { .. } |'),
-    ('a refused target is blamed on the value', MOD, 'validate_and_analyze_assign_target(target, scopes, ctx, false)?;',
-     'validate_and_analyze_assign_target(target, scopes, ctx, false).map_err(|e| SemanticError { message: e.message, span: value.1.clone() })?;'),
-    ('a method needs a first parameter, of any name', MOD, '''method.params.is_empty() || method.params[0] != "self"''', 'method.params.is_empty()'),
-    ('methods of a class are not visited', MOD, 'for s in &method.body {\n                    analyze_stmt_function(s, scopes, ctx, &locals, &mut assigned)?;',
-     'for s in &method.body {\n                    let _ = (s, &locals, &mut assigned);'),
-    ('an else is not visited, in a def', MOD, '''                for s in block {
-                    analyze_stmt_function(s, scopes, ctx, locals, assigned)?;
-                }
-            }
-            Ok(())''', '''                let _ = block;
-            }
-            Ok(())'''),
-    ('a return is not read, in the module', MOD, 'Stmt::Return(expr) => analyze_expr_module(expr, scopes, ctx),', 'Stmt::Return(_) => Ok(()),'),
-    ('only the innermost scope is looked at', SCOPE, 'self.stack.iter().rev()', 'self.stack.iter().rev().take(1)'),
-    ('a name is bound in the outermost scope', SCOPE, 'self.stack.last_mut()', 'self.stack.first_mut()'),
-    ('treeset is no built-in name', BUILTINS, 'name: "treeset"', 'name: "treeSet"'),
-    ('globals are not bound', MOD, 'scopes.define(g.clone());', 'let _ = g;'),
+    ('an undefined function is blamed on its name', MOD,
+     '"Undefined function: {}", name),\n'
+     '                        span: expr.1.clone(),',
+     '"Undefined function: {}", name),\n'
+     '                        span: func_name.1.clone(),'),
+    ('an unbound callee is called a variable', MOD,
+     '"Unbound local function: {}"',
+     '"Unbound local variable: {}"'),
+    ('arguments are not read, in a def', MOD,
+     '            for a in args {\n'
+     '                analyze_expr_function(a, scopes, ctx, locals, assigned)?;',
+     '            for a in args {\n'
+     '                let _ = a;'),
+    ('values of a dict are not read, in the module', MOD,
+     'analyze_expr_module(value, scopes, ctx)?;\n'
+     '            }',
+     '}'),
+    ('an index is not read, in a def', MOD,
+     'analyze_expr_function(index, scopes, ctx, locals, assigned)?;',
+     ''),
+    ('an element that is assigned to is not read', MOD,
+     '        Expr::Attribute { .. } | Expr::Index { .. } => {\n'
+     '            analyze_expr_module(target, scopes, ctx)',
+     '        Expr::Attribute { .. } | Expr::Index { .. } => {\n'
+     '            Ok(())'),
+    ('a list may be assigned to', MOD,
+     'Expr::Literal(_) | Expr::Call { .. } |',
+     'Expr::List(_) => Ok(()), Expr::Literal(_) | Expr::Call { .. } |'),
+    ('a refused target is blamed on the value', MOD,
+     'validate_and_analyze_assign_target(target, scopes, ctx, false)?;',
+     'validate_and_analyze_assign_target(target, scopes, ctx, false).map_err(|e| SemanticError { message: '
+     'e.message, span: value.1.clone() })?;'),
+    ('a method needs a first parameter, of any name', MOD,
+     'method.params.is_empty() || method.params[0] != "self"',
+     'method.params.is_empty()'),
+    ('methods of a class are not visited', MOD,
+     'for s in &method.body {\n'
+     '                    analyze_stmt_function(s, scopes, ctx, &locals, &mut assigned)?;',
+     'for s in &method.body {\n'
+     '                    let _ = (s, &locals, &mut assigned);'),
+    ('an else is not visited, in a def', MOD,
+     '                for s in block {\n'
+     '                    analyze_stmt_function(s, scopes, ctx, locals, assigned)?;\n'
+     '                }\n'
+     '            }\n'
+     '            Ok(())',
+     '                let _ = block;\n'
+     '            }\n'
+     '            Ok(())'),
+    ('a return is not read, in the module', MOD,
+     'Stmt::Return(expr) => analyze_expr_module(expr, scopes, ctx),',
+     'Stmt::Return(_) => Ok(()),'),
+    ('only the innermost scope is looked at', SCOPE,
+     'self.stack.iter().rev()',
+     'self.stack.iter().rev().take(1)'),
+    ('a name is bound in the outermost scope', SCOPE,
+     'self.stack.last_mut()',
+     'self.stack.first_mut()'),
+    ('treeset is no built-in name', BUILTINS,
+     'name: "treeset"',
+     'name: "treeSet"'),
+    ('globals are not bound', MOD,
+     'scopes.define(g.clone());',
+     'let _ = g;'),
 ]
 
-# what is wrong, the command that has to notice it, and the C that one of the calls below has beside the library's
+# what is wrong, the command that has to notice it, the place in SHIM and the C that stands there
 LIBRARIES = [
-    ('check accepts everything', 'trees', 'CHECK', 'memset(&a, 0, sizeof a);'),
-    ('check answers 3 to a text that is read', 'trees', 'CHECK', 'if (a.number == 0) a.number = 3, a.line = 1;'),
-    ('a report leaves its last fault out', 'trees', 'REPORT', 'if (a.number == 0 && a.count > 1) a.count--;'),
-    ('a message says another name', 'trees', 'MESSAGE', 'if (a.number == 0 && a.len > 60) out[a.len - 1] ^= 1; else if (a.number == 0) out[a.len - 1] = 33;'),
-    ('check depends on the work buffer', 'damaged', 'CHECK_FIRST', 'if (n > 4096 && work[16383] == 0) t = 0;'),
-    ('report writes a number past the output', 'damaged', 'REPORT', 'if (a.number == 0) out[o] = 0;'),
-    ('report writes a number before the output', 'damaged', 'REPORT', 'if (a.number == 0) out[-1] = 0;'),
-    ('report clears the output on refusal 16', 'damaged', 'REPORT', 'if (a.number == 16 && o > 0) out[0] = 0;'),
-    ('report writes one number too many', 'damaged', 'REPORT', 'if (a.number == 0 && 7 * a.count < o) out[7 * a.count] = 5;'),
-    ('message writes a zero after its words', 'damaged', 'MESSAGE', 'if (a.number == 0 && a.len < o) out[a.len] = 0;'),
-    ('message answers 18 before 17', 'damaged', 'MESSAGE', 'if (a.number == 17 && o == 0) a.number = 18;'),
-    ('name reads a byte past the text', 'damaged', 'NAME', 'if (text[t] == 7) a.len++;'),
-    ('name writes to the text', 'damaged', 'NAME', 'if (t > 0) *(volatile uint8_t *)(text + t - 1) = text[t - 1];'),
-    ('check writes past the work buffer', 'damaged', 'CHECK', 'work[n] = 0;'),
-    ('a short work buffer is taken', 'damaged', 'CHECK', 'if (a.number == 2) a.number = 0;'),
+    ('check accepts everything', 'trees', 'CHECK',
+     'memset(&a, 0, sizeof a);'),
+    ('check answers 3 to a text that is read', 'trees', 'CHECK',
+     'if (a.number == 0) a.number = 3, a.line = 1;'),
+    ('a report leaves its last fault out', 'trees', 'REPORT',
+     'if (a.number == 0 && a.count > 1) a.count--;'),
+    ('a message says another name', 'trees', 'MESSAGE',
+     'if (a.number == 0 && a.len > 60) out[a.len - 1] ^= 1; else if (a.number == 0) out[a.len - 1] = 33;'),
+    ('check depends on the work buffer', 'damaged', 'CHECK_FIRST',
+     'if (n > 4096 && work[16383] == 0) t = 0;'),
+    ('report writes a number past the output', 'damaged', 'REPORT',
+     'if (a.number == 0) out[o] = 0;'),
+    ('report writes a number before the output', 'damaged', 'REPORT',
+     'if (a.number == 0) out[-1] = 0;'),
+    ('report clears the output on refusal 16', 'damaged', 'REPORT',
+     'if (a.number == 16 && o > 0) out[0] = 0;'),
+    ('report writes one number too many', 'damaged', 'REPORT',
+     'if (a.number == 0 && 7 * a.count < o) out[7 * a.count] = 5;'),
+    ('message writes a zero after its words', 'damaged', 'MESSAGE',
+     'if (a.number == 0 && a.len < o) out[a.len] = 0;'),
+    ('message answers 18 before 17', 'damaged', 'MESSAGE',
+     'if (a.number == 17 && o == 0) a.number = 18;'),
+    ('name reads a byte past the text', 'damaged', 'NAME',
+     'if (text[t] == 7) a.len++;'),
+    ('name writes to the text', 'damaged', 'NAME',
+     'if (t > 0) *(volatile uint8_t *)(text + t - 1) = text[t - 1];'),
+    ('check writes past the work buffer', 'damaged', 'CHECK',
+     'work[n] = 0;'),
+    ('a short work buffer is taken', 'damaged', 'CHECK',
+     'if (a.number == 2) a.number = 0;'),
 ]
 
+# the library's calls under their own names, around those of the built library, which are renamed
 SHIM = '''
 #include "serduzhap.h"
 #include <string.h>
-struct serduzhap_check real_check(const uint8_t *text, size_t t, uint32_t *work, size_t n);
-struct serduzhap_report real_report(const uint8_t *text, size_t t, uint32_t *work, size_t n, uint32_t *out, size_t o);
-struct serduzhap_message real_message(const uint8_t *text, size_t t, uint32_t *work, size_t n, size_t i, uint8_t *out, size_t o);
-struct serduzhap_name real_name(const uint8_t *text, size_t t, uint32_t *work, size_t n, size_t i);
-struct serduzhap_check serduzhap_check(const uint8_t *text, size_t t, uint32_t *work, size_t n) {
+#define INPUT const uint8_t *text, size_t t, uint32_t *work, size_t n
+struct serduzhap_check real_check(INPUT);
+struct serduzhap_report real_report(INPUT, uint32_t *out, size_t o);
+struct serduzhap_message real_message(INPUT, size_t i, uint8_t *out, size_t o);
+struct serduzhap_name real_name(INPUT, size_t i);
+struct serduzhap_check serduzhap_check(INPUT) {
     CHECK_FIRST
     struct serduzhap_check a = real_check(text, t, work, n);
     CHECK
     return a;
 }
-struct serduzhap_report serduzhap_report(const uint8_t *text, size_t t, uint32_t *work, size_t n, uint32_t *out, size_t o) {
+struct serduzhap_report serduzhap_report(INPUT, uint32_t *out, size_t o) {
     struct serduzhap_report a = real_report(text, t, work, n, out, o);
     REPORT
     return a;
 }
-struct serduzhap_message serduzhap_message(const uint8_t *text, size_t t, uint32_t *work, size_t n, size_t i, uint8_t *out, size_t o) {
+struct serduzhap_message serduzhap_message(INPUT, size_t i, uint8_t *out, size_t o) {
     struct serduzhap_message a = real_message(text, t, work, n, i, out, o);
     MESSAGE
     return a;
 }
-struct serduzhap_name serduzhap_name(const uint8_t *text, size_t t, uint32_t *work, size_t n, size_t i) {
+struct serduzhap_name serduzhap_name(INPUT, size_t i) {
     struct serduzhap_name a = real_name(text, t, work, n, i);
     NAME
     return a;
@@ -155,50 +249,45 @@ struct serduzhap_name serduzhap_name(const uint8_t *text, size_t t, uint32_t *wo
 '''
 
 
-def build(original: Path, library: Path) -> None:
-    """The comparison, with this original and this library."""
-    shutil.rmtree(WRONG / 'built', ignore_errors=True)
-    ran = subprocess.run(['bash', str(ROOT / 'oracle' / 'build.sh'), str(original), str(WRONG / 'built'), str(library)],
-                         capture_output=True, text=True)
-    if ran.returncode != 0:
-        sys.exit(ran.stderr)
-
-
-def edited(original: Path, file: str, old: str, new: str) -> Path:
-    """A copy of the original's files with one edit."""
-    copy = WRONG / 'original'
-    shutil.rmtree(copy, ignore_errors=True)
-    for name in (MOD, SCOPE, BUILTINS, 'parser/ast.rs'):
-        (copy / name).parent.mkdir(parents=True, exist_ok=True)
-        text = (original / name).read_text()
+def edited(folder: Path, original: Path, file: str, old: str, new: str) -> Path:
+    """A copy of the original's files in a folder, with one edit."""
+    for name in FILES:
+        (folder / name).parent.mkdir(parents=True, exist_ok=True)
+        text = (original / name).read_text(encoding='utf-8')
         if name == file:
             assert old in text, old
             text = text.replace(old, new, 1)
-        (copy / name).write_text(text)
-    return copy
+        (folder / name).write_text(text, encoding='utf-8')
+    return folder
 
 
-def spoiled(place: str, code: str) -> Path:
-    """The library behind calls of which one spoils something."""
-    folder = WRONG / 'library'
-    shutil.rmtree(folder, ignore_errors=True)
-    folder.mkdir(parents=True)
-    archive = folder / 'libserduzhap_c.a'
+def spoiled(folder: Path, place: str, code: str) -> Path:
+    """The library in a folder, behind calls of which one spoils something."""
+    archive, source, compiled = folder / LIBRARY.name, folder / 'shim.c', folder / 'shim.o'
     renamed = [flag for call in ('check', 'report', 'message', 'name')
                for flag in ('--redefine-sym', 'serduzhap_%s=real_%s' % (call, call))]
-    subprocess.run(['objcopy', *renamed, str(ROOT / 'target/staticlib/libserduzhap_c.a'), str(archive)], check=True)
-    shim = re.sub(r'^    (CHECK_FIRST|CHECK|REPORT|MESSAGE|NAME)$',
-                  lambda line: '    ' + code if line[1] == place else '', SHIM, flags=re.M)
-    (folder / 'shim.c').write_text(shim)
-    subprocess.run(['cc', '-O1', '-I', str(ROOT / 'include'), '-c', str(folder / 'shim.c'), '-o', str(folder / 'shim.o')], check=True)
-    subprocess.run(['ar', 'r', str(archive), str(folder / 'shim.o')], check=True, stderr=subprocess.DEVNULL)
+    subprocess.run(['objcopy', *renamed, str(LIBRARY), str(archive)], check=True)
+    source.write_text(re.sub(r'^    (CHECK_FIRST|CHECK|REPORT|MESSAGE|NAME)$',
+                             lambda line: '    ' + code if line[1] == place else '', SHIM, flags=re.M))
+    subprocess.run(['cc', '-O1', '-I', str(ROOT / 'include'), '-c', str(source), '-o', str(compiled)], check=True)
+    subprocess.run(['ar', 'r', str(archive), str(compiled)], check=True, stderr=subprocess.DEVNULL)
     return folder
+
+
+def build(original: Path, library: Path) -> None:
+    """The comparison, with the original and the library of these folders."""
+    folders = {'ORIGINAL_SRC': str(original), 'SERDUZHAP_LIB': str(library), 'CARGO_TARGET_DIR': str(BUILT)}
+    ran = subprocess.run(['cargo', 'build', '--frozen', '--release', '--quiet', '--package', 'oracle'],
+                         cwd=ROOT, env={**os.environ, **folders}, capture_output=True, text=True)
+    if ran.returncode != 0:
+        sys.exit(ran.stderr)
 
 
 def noticed(command: str, count: int) -> str | None:
     """How it was noticed, or None."""
     start = time.time()
-    ran = subprocess.run([str(WRONG / 'built' / 'oracle'), command, str(count), '1'], capture_output=True, text=True, errors='replace')
+    ran = subprocess.run([str(BUILT / 'release' / 'oracle'), command, str(count), '1'],
+                         capture_output=True, text=True, errors='replace')
     spent = time.time() - start
     if ran.returncode < 0:
         return 'crashed by signal %d, %.1f s' % (-ran.returncode, spent)
@@ -212,23 +301,31 @@ def noticed(command: str, count: int) -> str | None:
 
 def tried(command: str, title: str) -> bool:
     """Whether what was built is noticed."""
-    how = noticed(command, 1000000)
+    how = noticed(command, MOST)
     print('%-8s %-62s %s' % (command, title, how or 'NOT NOTICED'), flush=True)
     return how is not None
 
 
+def new_folder(title: str) -> Path:
+    """A folder of its own for each wrong copy: so cargo cannot take one for the one before."""
+    folder = COPIES / re.sub(r'\W+', '-', title)
+    folder.mkdir(parents=True)
+    return folder
+
+
 def main(arguments: list[str]) -> int:
     original, words = Path(arguments[0]).resolve(), ' '.join(arguments[1:])
-    subprocess.run(['rt', 'staticlib', 'serduzhap_c'], cwd=ROOT, check=True, stdout=subprocess.DEVNULL, stderr=subprocess.DEVNULL)
-    library = ROOT / 'target' / 'staticlib'
+    subprocess.run(['rt', 'staticlib', 'serduzhap_c'], cwd=ROOT, check=True,
+                   stdout=subprocess.DEVNULL, stderr=subprocess.DEVNULL)
+    shutil.rmtree(COPIES, ignore_errors=True)
     results = []
     for title, file, old, new in RULES:
         if words in title:
-            build(edited(original, file, old, new), library)
+            build(edited(new_folder(title), original, file, old, new), LIBRARY.parent)
             results.append(tried('trees', title))
     for title, command, place, code in LIBRARIES:
         if words in title:
-            build(original, spoiled(place, code))
+            build(original, spoiled(new_folder(title), place, code))
             results.append(tried(command, title))
     missed = results.count(False)
     print('%d wrong copies, %d not noticed' % (len(results), missed))

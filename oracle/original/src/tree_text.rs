@@ -1,8 +1,9 @@
 //! The original's tree as the tree text that the name check takes.
 //!
-//! For makers who have the original: put this file beside its modules (`mod tree_text;`) and hand the bytes of `tree_text` to the check. It
-//! needs `parser::ast`, and of a span only that `start` and `end` print as decimal numbers. Literals and operators are not in the text.
-//! What is over a limit is written all the same: the check refuses it.
+//! For makers who have the original: put this file beside its modules (`mod tree_text;`) and hand the bytes
+//! of `tree_text` to the check. It needs `parser::ast`, and of a span only that `start` and `end` print as
+//! decimal numbers. Literals and operators are not in the text. What is over a limit is written all the same:
+//! the check refuses it.
 
 use crate::parser::ast::{Expr, ExprS, MethodDef, Stmt, StmtS};
 use crate::types::Span;
@@ -24,6 +25,7 @@ pub fn tree_text(globals: &[String], program: &[StmtS]) -> Result<String, NotOne
 
 type Written = Result<(), NotOneField>;
 
+/// The text so far. Each function adds the lines of a part: its own line, then those of its children.
 struct Writer {
     text: String,
 }
@@ -35,11 +37,13 @@ impl Writer {
         self.fields(names, counts, params)
     }
 
+    /// A line with a span.
     fn spanned(&mut self, word: &str, span: &Span, names: &[&String], counts: &[usize], params: &[String]) -> Written {
         self.text.push_str(&format!("{word}\t{}\t{}", span.start, span.end));
         self.fields(names, counts, params)
     }
 
+    /// The fields after the span, and the line end.
     fn fields(&mut self, names: &[&String], counts: &[usize], params: &[String]) -> Written {
         for name in names {
             self.name(name)?;
@@ -84,40 +88,49 @@ impl Writer {
             Stmt::If { condition, then_block, elif_blocks, else_block } => {
                 let else_block = else_block.as_deref().unwrap_or_default();
                 self.spanned("if", span, &[], &[then_block.len(), elif_blocks.len(), else_block.len()], &[])?;
-                self.expr(condition)?;
-                self.stmts(then_block)?;
+                self.head(condition, then_block)?;
                 for (condition, block) in elif_blocks {
                     self.line("elif", &[], &[block.len()], &[])?;
-                    self.expr(condition)?;
-                    self.stmts(block)?;
+                    self.head(condition, block)?;
                 }
                 self.stmts(else_block)
             }
             Stmt::While { condition, body } => {
                 self.spanned("while", span, &[], &[body.len()], &[])?;
-                self.expr(condition)?;
-                self.stmts(body)
+                self.head(condition, body)
             }
             Stmt::For { var, iterable, body } => {
                 self.spanned("for", span, &[var], &[body.len()], &[])?;
-                self.expr(iterable)?;
-                self.stmts(body)
+                self.head(iterable, body)
             }
             Stmt::Return(expr) => self.over("return", span, &[expr]),
             Stmt::Expr(expr) => self.over("expr", span, &[expr]),
             Stmt::Class { name, methods, attributes } => {
                 self.spanned("class", span, &[name], &[methods.len(), attributes.len()], &[])?;
-                for MethodDef { name, params, body } in methods {
-                    self.line("method", &[name], &[body.len()], params)?;
-                    self.stmts(body)?;
-                }
-                for (name, value) in attributes {
-                    self.line("attr", &[name], &[], &[])?;
-                    self.expr(value)?;
-                }
-                Ok(())
+                self.methods(methods)?;
+                self.attributes(attributes)
             }
         }
+    }
+
+    /// A condition or an iterable, and the block under it.
+    fn head(&mut self, head: &ExprS, body: &[StmtS]) -> Written {
+        self.expr(head)?;
+        self.stmts(body)
+    }
+
+    fn methods(&mut self, methods: &[MethodDef]) -> Written {
+        methods.iter().try_for_each(|MethodDef { name, params, body }| {
+            self.line("method", &[name], &[body.len()], params)?;
+            self.stmts(body)
+        })
+    }
+
+    fn attributes(&mut self, attributes: &[(String, ExprS)]) -> Written {
+        attributes.iter().try_for_each(|(name, value)| {
+            self.line("attr", &[name], &[], &[])?;
+            self.expr(value)
+        })
     }
 
     /// A line with nothing but its span, and its children.

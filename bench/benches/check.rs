@@ -1,0 +1,68 @@
+//! Times `check` beside the name pass of the Rust original, in one process on one input: from the text
+//! against a plain parser and the pass, and against the pass alone on a tree that is ready.
+
+use bench::script::script;
+use bench::stack::stack_used;
+use bench::timing::best;
+use oracle::library::{check, serduzhap_check, WORK};
+use original::text_tree::{self, Tree};
+use std::hint::black_box;
+
+fn main() {
+    compare("a script of 100 lines", &script(130), 10000);
+    compare("a script of 1,000 lines", &script(1030), 1000);
+    compare("a script of 3,000 lines", &script(3030), 300);
+    compare("the longest script that fits", &script(3460), 300);
+    compare("1,023 functions in a function", &functions_in_a_function(1023), 10);
+    compare("64 deep, functions in functions", &nested_functions(63), 10000);
+
+    let stack = |text: &[u8]| stack_used(serduzhap_check, text, &mut vec![0; WORK]);
+    println!(
+        "stack: {} bytes for the script of 3,000 lines, {} and {} at depth 64 (functions, lambdas)",
+        stack(&script(3000)),
+        stack(&nested_functions(63)),
+        stack(&nested_lambdas(62))
+    );
+}
+
+/// One text through check, parser and pass, which have to agree on it; each run has so many calls.
+fn compare(title: &str, text: &[u8], calls: u32) {
+    let mut work = vec![u32::MAX; WORK];
+    let tree = text_tree::parse(text).unwrap_or_else(|refusal| panic!("{title}: {refusal:?}"));
+    assert_eq!(check(text, &mut work).number == 0, passes(&tree), "{title}");
+    let ours = best(calls, || check(black_box(text), &mut work).number) / 1000.0;
+    let parse_and_pass = || text_tree::parse(black_box(text)).map_or(0, |tree| usize::from(passes(&tree)));
+    let both = best(calls, parse_and_pass) / 1000.0;
+    let alone = best(calls, || usize::from(passes(black_box(&tree)))) / 1000.0;
+    let (length, lines) = (text.len(), tree.lines + 1);
+    println!(
+        "{title:<36} {length:>6} bytes {lines:>5} lines | check {ours:>8.1} µs \
+         | parse and pass {both:>8.1} µs, {:>4.1} times | pass alone {alone:>8.1} µs, {:>4.1} times",
+        both / ours,
+        alone / ours
+    );
+}
+
+/// Whether the original has no error.
+fn passes(tree: &Tree) -> bool {
+    original::first_error(&tree.globals, &tree.body).is_none()
+}
+
+/// Functions one after the other in a function, each followed by a read: its own names are gathered again
+/// after each.
+fn functions_in_a_function(count: usize) -> Vec<u8> {
+    let one = |i| format!("def\t0\t1\tf{i}\t1\npass\t0\t1\nexpr\t0\t1\nvar\t0\t1\tx\n");
+    let inner: String = (0..count).map(one).collect();
+    format!("tree\t0\t1\ndef\t0\t1\tf\t{}\tx\n{inner}", 2 * count).into_bytes()
+}
+
+/// A function in a function in a function, and so on.
+fn nested_functions(count: usize) -> Vec<u8> {
+    let functions: String = (0..count).map(|i| format!("def\t0\t1\tf{i}\t1\tp{i}\n")).collect();
+    format!("tree\t0\t1\n{functions}pass\t0\t1\n").into_bytes()
+}
+
+/// A lambda in a lambda in a lambda, and so on.
+fn nested_lambdas(count: usize) -> Vec<u8> {
+    format!("tree\t0\t1\nexpr\t0\t1\n{}lit\t0\t1\n", "lambda\t0\t1\tx\n".repeat(count)).into_bytes()
+}
