@@ -1,7 +1,7 @@
 //! All trees of few lines over one name, `a`, or over the first few of `a`, `b` and `c`. A def, a method or a
 //! lambda has no parameter or one; a method may also have `self` before.
 
-use crate::compare::Compared;
+use crate::compare::{Compared, Comparison};
 use crate::numbers::Numbers;
 use crate::random_tree::number_spans;
 use original::parser::ast::{BinaryOp, Expr, ExprS, Literal, MethodDef, Stmt, StmtS, UnaryOp};
@@ -17,30 +17,27 @@ type Elif = (ExprS, Vec<StmtS>);
 /// What is done with each part of a kind.
 type Each<'a, T> = &'a mut dyn FnMut(T);
 
-/// Hands every tree of up to so many lines after the first, over so many names, to a comparison, up to the
-/// first difference: trees with no global, and with one, which is a line, too.
-pub fn each_tree(
-    most_lines: usize,
-    names: usize,
-    mut compare: impl FnMut(&[String], Vec<StmtS>) -> Compared,
-) -> Compared {
+/// Every tree of up to so many lines after the first, over so many names: with no global, and with one, which
+/// is a line, too.
+pub fn compare_every(comparison: &mut Comparison, most_lines: usize, names: usize) -> Compared {
     let mut parts = Parts::over(&NAMES[..names.min(NAMES.len())]);
     let (mut rng, mut result) = (Numbers::new(0), Ok(()));
     for lines in 0..=most_lines {
-        let mut hand_over = |globals: &[String], mut body: Vec<StmtS>| {
+        // up to the first difference
+        let mut compare = |globals: &[String], mut body: Vec<StmtS>| {
             if result.is_ok() {
                 number_spans(&mut body, &mut rng);
-                result = compare(globals, body);
+                result = comparison.compare_tree(globals, body);
             }
         };
         if lines > 0 {
             for name in &parts.names {
-                each_list(&parts.stmts, lines - 1, &mut |body| hand_over(from_ref(name), body));
+                each_list(&parts.stmts, lines - 1, &mut |body| compare(from_ref(name), body));
             }
         }
         // those of several statements; those of one, which are not among the parts yet
-        each_list(&parts.stmts, lines, &mut |body| hand_over(&[], body));
-        parts.each_stmt(lines, &mut |stmt| hand_over(&[], vec![stmt]));
+        each_list(&parts.stmts, lines, &mut |body| compare(&[], body));
+        parts.each_stmt(lines, &mut |stmt| compare(&[], vec![stmt]));
         if lines < most_lines {
             parts.grow(lines);
         }

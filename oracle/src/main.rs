@@ -2,10 +2,9 @@
 //! oracle/run.sh builds and runs it. Exit status: 0 no difference, 1 a difference, 2 bad usage.
 
 use oracle::compare::{Compared, Comparison};
-use oracle::every_tree::each_tree;
+use oracle::every_tree::compare_every;
 use oracle::guarded::compare_damaged;
-use oracle::numbers::Numbers;
-use oracle::random_tree::random_tree;
+use oracle::random_tree::compare_random;
 use oracle::vectors::{answer, write_vectors};
 use std::io::{self, Read};
 use std::process::ExitCode;
@@ -36,7 +35,7 @@ fn run(words: &[&str]) -> Option<ExitCode> {
         }
         ["every", lines, names] => {
             let (lines, names) = (number(lines)? as usize, number(names)? as usize);
-            compared(|comparison| each_tree(lines, names, |globals, body| comparison.compare_tree(globals, body)))
+            compared(|comparison| compare_every(comparison, lines, names))
         }
         ["damaged", count, seed] => {
             let (count, seed) = (number(count)?, number(seed)?);
@@ -71,15 +70,6 @@ fn compared(run: impl FnOnce(&mut Comparison) -> Compared) -> ExitCode {
             ExitCode::FAILURE
         }
     }
-}
-
-fn compare_random(comparison: &mut Comparison, count: u64, seed: u64) -> Compared {
-    let mut rng = Numbers::new(seed);
-    for _ in 0..count {
-        let (globals, body) = random_tree(&mut rng);
-        comparison.compare_tree(&globals, body)?;
-    }
-    Ok(())
 }
 
 /// The original's answer to the text on standard input.

@@ -6,6 +6,7 @@
 //! A seed gives the same trees as long as numbers are drawn in the same order: fields stand here in that
 //! order.
 
+use crate::compare::{Compared, Comparison};
 use crate::numbers::Numbers;
 use crate::visit::{self, Visit};
 use original::parser::ast::{BinaryOp, Expr, ExprS, Literal, MethodDef, Stmt, StmtS, UnaryOp};
@@ -70,6 +71,16 @@ const NOWHERE: Span = Span { start: 0, end: 0 };
 
 /// A tree: names that are bound before, and statements.
 type Script = (Vec<String>, Vec<StmtS>);
+
+/// So many random trees.
+pub fn compare_random(comparison: &mut Comparison, count: u64, seed: u64) -> Compared {
+    let mut rng = Numbers::new(seed);
+    for _ in 0..count {
+        let (globals, body) = random_tree(&mut rng);
+        comparison.compare_tree(&globals, body)?;
+    }
+    Ok(())
+}
 
 /// A tree; most are small, and one in a thousand goes to a limit or one past it.
 pub fn random_tree(rng: &mut Numbers) -> Script {
