@@ -11,7 +11,7 @@ use lib.ListN.{length, length-append}
 use Rattle.spec_text.specs.Bytes.{Bytes}
 use Rattle.spec_text.specs.Tree.{Expr, Exprs, Attrs, Stmt, Stmts, Methods, Tree, block, for}
 use Rattle.spec_text.specs.Lines.{StmtForm, ExprForm, Form, Parsed, countAt, asStmt, asExpr, asSort}
-use Rattle.spec_text.specs.Reading.{longestText, shortestWork, deepest, Rest, Read, got, andThen, Due, line, exprs, attrs, stmts, methods, exprChildren, expr, stmtChildren, stmt, elif, methodsAt, attrsAt, globals, Reading, tree, refusal, ended, readTree, reading}
+use Rattle.spec_text.specs.Reading.{longestText, shortestWork, deepest, Rest, Read, got, andThen, Due, exprs, attrs, stmts, methods, exprChildren, expr, stmtChildren, stmt, elif, methodsAt, attrsAt, globals, Reading, tree, refusal, ended, readTree, reading}
 use Rattle.work_rows.specs.Rows.{Row, row, rowsE, rowsEs, rowsAs, rowsS, rowsSs, rowsMs, globalRow, rowsT}
 use Rattle.read_tree.specs.Laid.{startOf}
 use Rattle.work_rows.proofs.Lengths.{Sized, sized-e, sized-es, sized-as, sized-ss, sized-ms, nothing as no-lines, both as one-after}
