@@ -12,7 +12,7 @@ use Rattle.spec_faults.specs.Position.{Placed, Home, inModule, inDef, inMethod,
 use Rattle.spec_faults.specs.Faults.{Fault, lacksSelf, refusedAt}
 use Rattle.spec_faults.proofs.Lists.{All, none, also, all-append}
 use Rattle.spec_faults.proofs.ListingWalk.{State, Env, assigning, naming, entered, afterT, afterS, afterSs, withParams, defEnv, methodEnv, inClasses}
-use Rattle.spec_faults.proofs.InTextOrder.{rawE, rawEs, rawT, rawTs, rawS, rawSs, rawMs}
+use Rattle.spec_faults.proofs.TextWalk.{rawE, rawEs, rawT, rawTs, rawS, rawSs, rawMs}
 use Rattle.work_rows.specs.Rows.{Row, row, rowsE, rowsEs, rowsAs, rowsS, rowsSs, rowsMs}
 use Rattle.work_rows.proofs.Lengths.{Sized, sized-e, sized-s, sized-ss}
 use Rattle.read_row.specs.Worded.{WordedE, WordedEs, WordedS, WordedSs, WordedMs}

@@ -10,7 +10,7 @@ use Rattle.spec_text.specs.Tree.{Tree, lenSs, firstLine}
 use Rattle.spec_faults.specs.Faults.{Fault, faults}
 use Rattle.spec_faults.proofs.Lists.{All}
 use Rattle.spec_faults.proofs.ListingWalk.{moduleEnv, startState}
-use Rattle.spec_faults.proofs.InTextOrder.{rawSs}
+use Rattle.spec_faults.proofs.TextWalk.{rawSs}
 use Rattle.spec_faults.proofs.Deduped.{dedupe, faults-deduped, dedupe-all}
 use Rattle.work_rows.specs.Rows.{globalRow, rowsSs, rowsT}
 use Rattle.work_rows.proofs.Lengths.{Sized, rows-length}

@@ -15,7 +15,7 @@ use Rattle.spec_text.specs.Tree.{Line, Expr, Exprs, var, node, access, tuple, c
 use Rattle.spec_faults.specs.Position.{Placed, inDef, Use, value, callee}
 use Rattle.spec_faults.specs.Faults.{Fault}
 use Rattle.spec_faults.proofs.ListingWalk.{State, Env}
-use Rattle.spec_faults.proofs.InTextOrder.{rawE, rawEs}
+use Rattle.spec_faults.proofs.TextWalk.{rawE, rawEs}
 use Rattle.spec_faults.proofs.Deduped.{dedupe, seenAfter}
 use Rattle.work_rows.specs.Layout.{rowsMost, kindAt, numberAt, afterRow}
 use Rattle.work_rows.specs.Rows.{Row, row, rowsE, rowsEs}

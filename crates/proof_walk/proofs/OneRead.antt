@@ -14,7 +14,7 @@ use Rattle.spec_text.proofs.Lists.{same-eq, same-false}
 use Rattle.spec_faults.specs.Position.{Placed, Home, inModule, inDef, inMethod, Use, value, callee}
 use Rattle.spec_faults.specs.Faults.{Fault, faultAt, outermost, unbound, undefined, unless, judgeRead, capture}
 use Rattle.spec_faults.proofs.ListingWalk.{State, Env}
-use Rattle.spec_faults.proofs.InTextOrder.{rawE}
+use Rattle.spec_faults.proofs.TextWalk.{rawE}
 use Rattle.spec_faults.proofs.Deduped.{dedupe, seenAfter}
 use Rattle.work_rows.specs.Rows.{Row}
 use Rattle.work_marks.specs.MarksModel.{lambdaEnd, blockEnd, slotAt, stampAt, raisedLambda, putSlot}

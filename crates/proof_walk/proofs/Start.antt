@@ -18,7 +18,7 @@ use Rattle.spec_faults.specs.Position.{inModule, inDef}
 use Rattle.spec_faults.specs.Builtins.{builtinNames}
 use Rattle.spec_faults.proofs.ListingWalk.{State, afterSs, moduleEnv, startState}
 use Rattle.spec_faults.proofs.Lists.{mem-append}
-use Rattle.spec_faults.proofs.InTextOrder.{rawSs}
+use Rattle.spec_faults.proofs.TextWalk.{rawSs}
 use Rattle.work_rows.specs.Layout.{put, rowsMost, headBase, numberAt, afterRow}
 use Rattle.read_names.specs.ChainsModel.{lookup}
 use Rattle.work_rows.specs.Rows.{Row, globalRow, rowsSs, rowsT}

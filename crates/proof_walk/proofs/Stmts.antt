@@ -12,7 +12,7 @@ use Rattle.spec_text.specs.Tree.{Line, Expr, Exprs, Attrs, Stmt, Stmts, Methods
 use Rattle.spec_faults.specs.Position.{Home, inModule, inDef, inMethod, value}
 use Rattle.spec_faults.specs.Faults.{Fault, unless, lacksSelf, selfless}
 use Rattle.spec_faults.proofs.ListingWalk.{State, Env, assigning, naming, entered, afterT, afterS, afterSs, defEnv, methodEnv, inClasses, selfFault}
-use Rattle.spec_faults.proofs.InTextOrder.{rawE, rawEs, rawT, rawS, rawSs, rawMs}
+use Rattle.spec_faults.proofs.TextWalk.{rawE, rawEs, rawT, rawS, rawSs, rawMs}
 use Rattle.spec_faults.proofs.Deduped.{seenAfter}
 use Rattle.work_rows.specs.Layout.{kindAt, afterRow}
 use Rattle.work_rows.specs.Rows.{Row, row, rowsE, rowsEs, rowsAs, rowsS, rowsSs, rowsMs}

@@ -13,7 +13,7 @@ use Rattle.spec_text.specs.Tree.{Line, Expr, Exprs, var, node, access, tuple, c
 use Rattle.spec_faults.specs.Position.{inDef}
 use Rattle.spec_faults.specs.Faults.{Fault, refusedAt}
 use Rattle.spec_faults.proofs.ListingWalk.{State, Env, afterT, afterTs}
-use Rattle.spec_faults.proofs.InTextOrder.{rawEs, rawT, rawTs}
+use Rattle.spec_faults.proofs.TextWalk.{rawEs, rawT, rawTs}
 use Rattle.work_rows.specs.Layout.{kindAt, numberAt, afterRow}
 use Rattle.work_rows.specs.Rows.{Row, row, rowsE, rowsEs}
 use Rattle.work_rows.proofs.Lengths.{sized-e}

@@ -8,7 +8,7 @@ use lib.ListN.{length}
 use Rattle.spec_text.specs.Bytes.{Bytes}
 use Rattle.spec_text.specs.Tree.{Tree, lenSs, firstLine}
 use Rattle.spec_faults.proofs.ListingWalk.{moduleEnv, startState}
-use Rattle.spec_faults.proofs.InTextOrder.{rawSs}
+use Rattle.spec_faults.proofs.TextWalk.{rawSs}
 use Rattle.spec_faults.proofs.Deduped.{dedupe}
 use Rattle.work_rows.specs.Rows.{rowsT}
 use Rattle.work_rows.proofs.Lengths.{rows-length}

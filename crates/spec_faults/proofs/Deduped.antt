@@ -13,7 +13,8 @@ use Rattle.spec_faults.specs.Faults.{Fault, capture, byPlace, faults}
 use Rattle.spec_faults.proofs.Lists.{All, also}
 use Rattle.spec_faults.proofs.ListingWalk.{once, moduleEnv, startState}
 use Rattle.spec_faults.proofs.Once.{placed, byPlaceOnce, by-place, faults-once}
-use Rattle.spec_faults.proofs.InTextOrder.{rawSs, raw-faults}
+use Rattle.spec_faults.proofs.TextWalk.{rawSs}
+use Rattle.spec_faults.proofs.InTextOrder.{raw-faults}
 
 -- a capture that stands for the same lambda and name
 abbrev pub sameCapture : Fault → Fault → Bool

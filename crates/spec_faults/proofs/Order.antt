@@ -17,7 +17,8 @@ use borrow.Author.Tests.{ne-eqb}
 use Rattle.spec_faults.proofs.Lists.{eqb-same}
 use Rattle.spec_faults.proofs.ListingWalk.{State, assigning, naming, entered, afterT, afterS, afterSs, Mode, plain, captures, inside, Env, withParams, defEnv, methodEnv, moduleEnv, inClasses, test, once, walkE, walkEs, walkT, walkTs, walkS, walkSs, walkMs, startState, walk}
 use Rattle.spec_faults.proofs.Once.{placed, byPlaceOnce, faults-once}
-use Rattle.spec_faults.proofs.InTextOrder.{rawE, rawEs, rawT, rawTs, rawS, rawSs, rawMs, raw-faults}
+use Rattle.spec_faults.proofs.TextWalk.{rawE, rawEs, rawT, rawTs, rawS, rawSs, rawMs}
+use Rattle.spec_faults.proofs.InTextOrder.{raw-faults}
 
 -- ---- faults at a line, and by place
 placed-append : (n : ℕ) (a b : List Fault) → placed n (a ++ b) ≡ placed n a ++ placed n b
