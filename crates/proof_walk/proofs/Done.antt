@@ -22,7 +22,7 @@ use Rattle.proof_walk.specs.Notes.{Note, assignedBy}
 use Rattle.proof_walk.specs.Slots.{keyOf, slotsFrom, keys}
 use Rattle.proof_walk.proofs.State.{Open, Raised, At}
 use Rattle.proof_walk.proofs.PartRows.{table-kept}
-use Rattle.proof_walk.proofs.InExprs.{Places, places-on, slots-same, slots-both, stamped-on}
+use Rattle.proof_walk.proofs.InExprs.{places-on, slots-same, slots-both, stamped-on}
 use Rattle.proof_walk.proofs.Exprs.{Walked}
 
 -- ---- marks
@@ -92,7 +92,6 @@ pub record Done (text : Bytes) (rows : List Row) (num : Bytes → ℕ) (ns : Lis
   pub after : At text rows num ns s [] v st′ (seenAfter seen fs) w′ e
   pub slots : slotsFrom w′ r (e - r) ≡ keys (dedupe seen fs)
   pub change : Change num s r e w w′
-  pub places : Places e (seenAfter seen fs)
 
 -- a loop comes from row r to row e
 pub record Looped (text : Bytes) (rows : List Row) (num : Bytes → ℕ) (ns : List Note) (s : ScopeStack) (v : Env) (loop : ℕ → List ℕ → List ℕ) (st st′ : State) (seen fs : List Fault) (w : List ℕ)
@@ -109,11 +108,10 @@ module _ {text : Bytes} {rows : List Row} {num : Bytes → ℕ} {ns : List Note}
     after = subst (λ l. At text rows num ns s [] v st₂ l w₂ e) (sym (seen-append seen fs gs)) (q .after);
     slots = slots-then w₁ w₂ seen fs gs (p .far) (q .far) (q .change .before) (p .slots) (q .slots);
     change = change-then (p .far) (q .far) (p .change) (q .change);
-    places = subst (λ l. Places e l) (sym (seen-append seen fs gs)) (q .places);
   }
 
   -- ---- rows that keep the stamps, and the captures seen
-  module _ {st : State} {seen : List Fault} {w : List ℕ} {r : ℕ} (h : At text rows num ns s [] v st seen w r) (here : Places r seen) where
+  module _ {st : State} {seen : List Fault} {w : List ℕ} {r : ℕ} (h : At text rows num ns s [] v st seen w r) where
     record Next (st′ : State) (w′ : List ℕ) (e : ℕ) : Type 0 where
       far : r ≤ e
       room : e ≤ length rows
@@ -140,33 +138,35 @@ module _ {text : Bytes} {rows : List Row} {num : Bytes → ℕ} {ns : List Note}
         lambdas = λ x l. raised-same (n .lambdas x l);
         others = λ x l c _ _ _. n .stamps (num x);
       };
-      places = subst (λ l. Places e l) (sym q) (places-on (n .far) seen here);
     }
       where
         at : At text rows num ns s [] v st′ seen w′ e
         at = record {
-          table = table-kept (n .kept) (h .table);
-          words = n .words;
-          home = h .home;
-          view = n .view;
-          params = λ x l. open-raised (h .params x l) (n .far) (raised-same (n .lambdas x l));
-          own = λ d. stamped-on (n .stamps) (h .own d);
-          locals = h .locals;
-          others = h .others;
+          row = record {
+            table = table-kept (n .kept) (h .row .table);
+            words = n .words;
+            home = h .row .home;
+            view = n .view;
+            params = λ x l. open-raised (h .row .params x l) (n .far) (raised-same (n .lambdas x l));
+            own = λ d. stamped-on (n .stamps) (h .row .own d);
+            locals = h .row .locals;
+            others = h .row .others;
+            clean = clean;
+            places = places-on (n .far) seen (h .row .places);
+          };
           assigned = n .assigned;
           low = λ x l. let far = n .far in omega (arith, h .low x l, n .stamps (num x));
-          clean = clean;
         }
 
     -- no fault is there
     done-plain : {st′ : State} {w′ : List ℕ} {e : ℕ} → Next st′ w′ e → ((i : ℕ) → i < 4_096 → slotAt w′ i ≡ slotAt w i)
         → Done text rows num ns s v st st′ seen [] w w′ r e
     done-plain {st′} {w′} {e} n same =
-        let few = h .table .few in
+        let few = h .row .table .few in
         let room = n .room in
         let far = n .far in
-        done-next refl n (λ i l. same i (omega arith)) (λ i l k. same i (omega arith) ∙ h .clean i (omega arith) k)
-        (slots-none w′ r (e - r) (λ i l k. same i (omega arith) ∙ h .clean i l (omega arith)))
+        done-next refl n (λ i l. same i (omega arith)) (λ i l k. same i (omega arith) ∙ h .row .clean i (omega arith) k)
+        (slots-none w′ r (e - r) (λ i l k. same i (omega arith) ∙ h .row .clean i l (omega arith)))
 
     -- rows that are stepped over; a are the assigned names after them
     pub done-skip : {e : ℕ} (a : List Part) → r ≤ e → e ≤ length rows → Right ns v a e → Done text rows num ns s v st (record { view = st .view; assigned = a }) seen [] w w r e
@@ -175,8 +175,8 @@ module _ {text : Bytes} {rows : List Row} {num : Bytes → ℕ} {ns : List Note}
           far = l;
           room = k;
           kept = kept-refl w;
-          words = h .words;
-          view = λ x m. open-raised (h .view x m) l (raised-same refl);
+          words = h .row .words;
+          view = λ x m. open-raised (h .row .view x m) l (raised-same refl);
           assigned = right;
           blocks = λ x m. raised-same refl;
           lambdas = λ x m. refl;
@@ -187,23 +187,23 @@ module _ {text : Bytes} {rows : List Row} {num : Bytes → ℕ} {ns : List Note}
     pub done-fault : {e : ℕ} (f : Fault) → capture (f .kind) ≡ false → f .line ≡ suc (suc r) → 0 < f .kind → f .kind < 16 → r < e → e ≤ length rows
         → Right ns v (st .assigned) e → Done text rows num ns s v st st seen (f ∷ []) w (putSlot w r (f .kind)) r e
     done-fault {e} f c n pos small l k right =
-        let few = h .table .few in
-        let room = h .table .room in
+        let few = h .row .table .few in
+        let room = h .row .table .room in
         let w′ : List ℕ = putSlot w r (f .kind) in
         done-next (rw c refl) (record {
           far = omega arith;
           room = k;
           kept = kept-slot w r (f .kind);
-          words = words-slot w r (f .kind) (h .words);
-          view = λ x m. open-raised (h .view x m) (omega arith) (raised-same (slot-block w r (f .kind) (num x)));
+          words = words-slot w r (f .kind) (h .row .words);
+          view = λ x m. open-raised (h .row .view x m) (omega arith) (raised-same (slot-block w r (f .kind) (num x)));
           assigned = right;
           blocks = λ x m. raised-same (slot-block w r (f .kind) (num x));
           lambdas = λ x m. slot-lambda w r (f .kind) (num x) m;
           stamps = λ a. slot-stamp w r (f .kind) (omega arith) a;
         })
         (λ i m. slot-other w r (f .kind) i (λ q. omega arith))
-        (λ i m p. slot-other w r (f .kind) i (λ q. omega arith) ∙ h .clean i (omega arith) p)
-        (rw c (slots w′ (λ i p q. slot-other w r (f .kind) i (λ z. omega arith) ∙ h .clean i (omega arith) q) (slot-same w r (f .kind) room (omega arith) small)))
+        (λ i m p. slot-other w r (f .kind) i (λ q. omega arith) ∙ h .row .clean i (omega arith) p)
+        (rw c (slots w′ (λ i p q. slot-other w r (f .kind) i (λ z. omega arith) ∙ h .row .clean i (omega arith) q) (slot-same w r (f .kind) room (omega arith) small)))
       where
         slots : (w′ : List ℕ) → ((i : ℕ) → r < i → i < length rows → slotAt w′ i ≡ 0) → slotAt w′ r ≡ f .kind → slotsFrom w′ r (e - r) ≡ keys (f ∷ [])
         slots w′ none q =
@@ -221,13 +221,13 @@ module _ {text : Bytes} {rows : List Row} {num : Bytes → ℕ} {ns : List Note}
           far = l;
           room = k;
           kept = kept-raised-block w (num (x .bytes)) (s .end);
-          words = words-raised-block w (num (x .bytes)) (s .end) (h .words);
+          words = words-raised-block w (num (x .bytes)) (s .end) (h .row .words);
           view = λ y m. view y m (same y (x .bytes)) refl;
           assigned = right;
           blocks = λ y m. blocks y m (same y (x .bytes)) refl;
           lambdas = λ y m. raised-block-lambda w (num (x .bytes)) (s .end) (num y) m;
           stamps = λ a. raised-block-stamp w (num (x .bytes)) (s .end) a;
-        }) (λ i m. raised-block-slot w (num (x .bytes)) (s .end) (h .words) i))
+        }) (λ i m. raised-block-slot w (num (x .bytes)) (s .end) (h .row .words) i))
       where
         w′ : List ℕ
         w′ = raisedBlock w (num (x .bytes)) (s .end)
@@ -236,14 +236,14 @@ module _ {text : Bytes} {rows : List Row} {num : Bytes → ℕ} {ns : List Note}
         mark : (y : Bytes) → same y (x .bytes) ≡ true → blockEnd w′ (num y) ≡ max (blockEnd w (num y)) (s .end)
         mark y q =
             subst (λ z. blockEnd w′ (num z) ≡ max (blockEnd w (num z)) (s .end)) (sym (same-eq y (x .bytes) q))
-            (raised-block-same w (num (x .bytes)) (s .end) (h .table .room) small end)
+            (raised-block-same w (num (x .bytes)) (s .end) (h .row .table .room) small end)
 
         other : (y : Bytes) → num y < 4_096 → same y (x .bytes) ≡ false → blockEnd w′ (num y) ≡ blockEnd w (num y)
-        other y m q = raised-block-other w (num (x .bytes)) (s .end) (num y) (λ d. same-false y (x .bytes) q (h .table .apart y (x .bytes) m d))
+        other y m q = raised-block-other w (num (x .bytes)) (s .end) (num y) (λ d. same-false y (x .bytes) q (h .row .table .apart y (x .bytes) m d))
 
         view : (y : Bytes) → num y < 4_096 → (t : Bool) → same y (x .bytes) ≡ t → Open (s .end) e (blockEnd w′ (num y)) (t || mem y (st .view))
         view y m true q = record { far = λ _. omega (arith, mark y q); closed = λ p. absurd (true≢false p) }
-        view y m false q = open-raised (h .view y m) l (raised-same (other y m q))
+        view y m false q = open-raised (h .row .view y m) l (raised-same (other y m q))
 
         blocks : (y : Bytes) → num y < 4_096 → (t : Bool) → same y (x .bytes) ≡ t → Raised (s .end) (blockEnd w (num y)) (blockEnd w′ (num y))
         blocks y m true q = omega (arith, mark y q)
@@ -264,7 +264,6 @@ module _ {text : Bytes} {rows : List Row} {num : Bytes → ℕ} {ns : List Note}
           lambdas = k .lambdas;
           others = λ x l c _ _ _. k .stamps (num x);
         };
-        places = k .places;
       }) right
 
   -- ---- loops

@@ -38,7 +38,6 @@ use Rattle.proof_walk.proofs.PartRows.{head-row, here-tail, here-left, 
 use Rattle.proof_walk.proofs.InExprs.{none-blamed, Stands, Step, step-both, step-below, step-quiet, stands-on, onward}
 use Rattle.proof_walk.proofs.OneRead.{Under, flat, under, Around, CalledAs, asValue, asCallee, readAt, read-step}
 use Rattle.proof_walk.proofs.Lambdas.{Bound, bound-opened, around-in, stands-in, step-out}
-pub use Rattle.proof_walk.proofs.InExprs.{Places}
 pub use Rattle.proof_walk.proofs.OneRead.{Still, Flat}
 
 -- ---- a part of the rows
@@ -144,12 +143,12 @@ module _ {text : Bytes} {rows : List Row} {num : Bytes → ℕ} {ns : List Note}
       → Step num s ls v st seen (suc r) n w (walkExprs k text s (suc r) (suc r + n) w) fs
       → Step num s ls v st seen r (suc n) w (walkExpr (suc k) text called s r w) fs
   below-step {s} {w = w} {l} k r called n pl h p q =
-      let t = p .table in
+      let t = p .row .table in
       let e : r + suc n ≡ suc r + n = omega arith in
       step-as
       (at-other k text s called r w (row-few t h) (l .word) (pl .var) (pl .call) (pl .lambda) (row-kind t h)
       ∙ ap₂ (λ i stop. walkExprs k text s i stop w) (add-one r) (row-after t h ∙ e))
-      refl (step-below (p .clean r (omega arith) (head-row h .0)) q)
+      refl (step-below (p .row .clean r (omega arith) (head-row h .0)) q)
 
   mutual
     expr-step : (e : Expr) (k r : ℕ) {called : Bool} {u : Use} {s : ScopeStack} {ls : List Placed} {v : Env} {st : State} {seen : List Fault} {w : List ℕ} → CalledAs called u
@@ -157,7 +156,7 @@ module _ {text : Bytes} {rows : List Row} {num : Bytes → ℕ} {ns : List Note}
         → Step num s ls v st seen r (lenE e) w (walkExpr k text called s r w) (rawE e (suc (suc r)) u ls v st)
     expr-step (var l) zero r a h ok few p c = absurd (omega arith)
     expr-step (var l) (suc k) r {called} {u} {s} {ls} {v} {st} {seen} {w} a h ok few p c =
-        let t = p .table in
+        let t = p .row .table in
         step-as (at-var k text s called r w (row-few t h) (row-kind t h ∙ ok .0) ∙ ap (λ n. readOf s called n r w) (row-number t h (ok .1))) refl
         (read-step p c (omega arith) l (row-small t h (ok .1)) a)
     expr-step (node l es) zero r a h ok few p c = absurd (omega arith)
@@ -174,7 +173,7 @@ module _ {text : Bytes} {rows : List Row} {num : Bytes → ℕ} {ns : List Note}
         (exprs-step es k (suc r) (here-tail h) (ok .1) (omega arith) (stands-on p (omega arith)) (around-part (omega arith) (omega arith) c))
     expr-step (call l f es) zero r a h ok few p c = absurd (omega arith)
     expr-step (call l f es) (suc k) r {called} {u} {s} {ls} {v} {st} {seen} {w} a h ok few p c =
-        let t = p .table in
+        let t = p .row .table in
         let hf : Here rows (suc r) (rowsE f) = here-left (rowsE f) (rowsEs es) (here-tail h) in
         let p′ = stands-on p {i = suc r} (omega arith) in
         let q = expr-step f k (suc r) asCallee hf (ok .1 .0) (omega arith) p′ (around-part (omega arith) (omega arith) c) in
@@ -185,13 +184,13 @@ module _ {text : Bytes} {rows : List Row} {num : Bytes → ℕ} {ns : List Note}
         ∙ ap (λ i. walkExprs k text s (afterRow w i) (afterRow w r) (walkExpr k text true s i w)) (add-one r)
         ∙ ap₂ (λ i stop. walkExprs k text s i stop (walkExpr k text true s (suc r) w)) (after-E t f hf) (row-after t h ∙ e))
         (ap (λ n. rawE f (suc (suc (suc r))) (callee (readAt r l)) ls v st ++ rawEs es n ls v st) d)
-        (step-below (p .clean r (omega arith) (head-row h .0))
+        (step-below (p .row .clean r (omega arith) (head-row h .0))
         (step-both q
         (exprs-step es k (suc r + lenE f) (here-past (sized-e f) (rowsEs es) (here-tail h)) (ok .1 .1) (omega arith) (onward p′ (inner-outer (c .lambdas)) q)
         (around-part (omega arith) (omega arith) c))))
     expr-step (lambda l e) zero r a h ok few p c = absurd (omega arith)
     expr-step (lambda l e) (suc k) r {called} {u} {s} {ls} {v} {st} {seen} {w} a h ok few p c =
-        let t = p .table in
+        let t = p .row .table in
         let end : ℕ = r + suc (lenE e) in
         let y : List ℕ = opened text (pushedLambda s end) r end w in
         let b : Bound num end (l .params) w y =
@@ -203,8 +202,8 @@ module _ {text : Bytes} {rows : List Row} {num : Bytes → ℕ} {ns : List Note}
         step-as
         (at-lambda k text s called r w (row-few t h) (row-kind t h ∙ ok .0)
         ∙ ap₂ (λ i stop. rowsTo afterRow (walkLine k text (pushedLambda s stop)) i stop (opened text (pushedLambda s stop) r stop w)) (add-one r) (row-after t h)
-        ∙ one-row (walkLine k text (pushedLambda s end)) (suc r) end y (omega arith) (after-E (p′ .table) e he ∙ d)
-        ∙ ap (λ m. cond m (walkStmt k text (pushedLambda s end) (suc r) y) (walkExpr k text false (pushedLambda s end) (suc r) y)) (word-E (p′ .table) e he (ok .1 .1)))
+        ∙ one-row (walkLine k text (pushedLambda s end)) (suc r) end y (omega arith) (after-E (p′ .row .table) e he ∙ d)
+        ∙ ap (λ m. cond m (walkStmt k text (pushedLambda s end) (suc r) y) (walkExpr k text false (pushedLambda s end) (suc r) y)) (word-E (p′ .row .table) e he (ok .1 .1)))
         refl
         (step-out (lenE e) l p c b (expr-step e k (suc r) asValue he (ok .1 .1) (omega arith) p′ (around-in (lenE e) l p c b)))
 
@@ -220,7 +219,7 @@ module _ {text : Bytes} {rows : List Row} {num : Bytes → ℕ} {ns : List Note}
         let g : r + (lenE e + lenEs es) ≡ r + lenE e + lenEs es = omega arith in
         step-as
         (rows-more afterRow (walkExpr k text false s) after-on r (r + (lenE e + lenEs es)) w (omega arith)
-        ∙ ap₂ (λ i stop. walkExprs k text s i stop (walkExpr k text false s r w)) (after-E (p .table) e he) g)
+        ∙ ap₂ (λ i stop. walkExprs k text s i stop (walkExpr k text false s r w)) (after-E (p .row .table) e he) g)
         (ap (λ n. rawE e (suc (suc r)) value ls v st ++ rawEs es n ls v st) d)
         (step-both q
         (exprs-step es k (r + lenE e) (here-past (sized-e e) (rowsEs es) h) (ok .1) (omega arith) (onward p (inner-outer (c .lambdas)) q) (around-part (omega arith) (omega arith) c)))
@@ -230,7 +229,6 @@ module _ {text : Bytes} {rows : List Row} {num : Bytes → ℕ} {ns : List Note}
 pub record Walked (text : Bytes) (rows : List Row) (num : Bytes → ℕ) (ns : List Note) (s : ScopeStack) (v : Env) (st : State) (seen : List Fault) (r n : ℕ) (w z : List ℕ) (fs : List Fault) : Type 0 where
   pub after : (a : List Part) → (v .home ≡ inDef → (x : Bytes) → mem x a ≡ assignedBy ns x (r + n))
       → At text rows num ns s [] v (record { view = st .view; assigned = a }) (seenAfter seen fs) z (r + n)
-  pub places : Places (r + n) (seenAfter seen fs)
   pub slots : slotsFrom z r n ≡ keys (dedupe seen fs)
   pub before : (i : ℕ) → i < r → slotAt z i ≡ slotAt w i
   pub blocks : (a : ℕ) → blockEnd z a ≡ blockEnd w a
@@ -239,42 +237,23 @@ pub record Walked (text : Bytes) (rows : List Row) (num : Bytes → ℕ) (ns : L
   pub kept : Kept w z
 
 module _ {text : Bytes} {rows : List Row} {num : Bytes → ℕ} {ns : List Note} (k r : ℕ) {s : ScopeStack} {v : Env} {st : State} {seen : List Fault} {w : List ℕ} where
-  stands-at : At text rows num ns s [] v st seen w r → Places r seen → Stands text rows num ns s [] v st seen w r
-  stands-at p q = record {
-    table = p .table;
-    words = p .words;
-    home = p .home;
-    view = p .view;
-    params = p .params;
-    own = p .own;
-    locals = p .locals;
-    others = p .others;
-    clean = p .clean;
-    places = q;
-    captured = λ x b. absurd (false≢true (sym (none-blamed x r seen q) ∙ b));
-    far = λ x l b. absurd (false≢true (sym (none-blamed x r seen q) ∙ b));
+  stands-at : At text rows num ns s [] v st seen w r → Stands text rows num ns s [] v st seen w r
+  stands-at p = record {
+    row = p .row;
+    captured = λ x b. absurd (false≢true (sym (none-blamed x r seen (p .row .places)) ∙ b));
+    far = λ x l b. absurd (false≢true (sym (none-blamed x r seen (p .row .places)) ∙ b));
   }
 
   -- what a step does there
-  walked : {n : ℕ} {z : List ℕ} {fs : List Fault} → Flat s v → At text rows num ns s [] v st seen w r → Places r seen → Step num s [] v st seen r n w z fs
+  walked : {n : ℕ} {z : List ℕ} {fs : List Fault} → Flat s v → At text rows num ns s [] v st seen w r → Step num s [] v st seen r n w z fs
       → Walked text rows num ns s v st seen r n w z fs
-  walked {n} {z} {fs} f p q c =
-      let y = onward (stands-at p q) (omega (arith, f .inner)) c in
+  walked {n} {z} {fs} f p c =
       record {
         after = λ a e. record {
-          table = y .table;
-          words = y .words;
-          home = y .home;
-          view = y .view;
-          params = y .params;
-          own = y .own;
-          locals = y .locals;
-          others = y .others;
+          row = onward (stands-at p) (omega (arith, f .inner)) c .row;
           assigned = e;
           low = λ x l. omega (arith, ap (λ m. m / 8_192) (c .stamps (num x)), p .low x l);
-          clean = y .clean;
         };
-        places = c .places;
         slots = c .slots;
         before = c .before;
         blocks = c .blocks;
@@ -284,11 +263,11 @@ module _ {text : Bytes} {rows : List Row} {num : Bytes → ℕ} {ns : List Note}
       }
 
   pub expr-walked : (e : Expr) → Here rows r (rowsE e) → WordedE e → lenE e ≤ k → r + lenE e ≤ s .end → s .end ≤ length rows → Flat s v
-      → At text rows num ns s [] v st seen w r → Places r seen → Still ns v st r (r + lenE e)
+      → At text rows num ns s [] v st seen w r → Still ns v st r (r + lenE e)
       → Walked text rows num ns s v st seen r (lenE e) w (walkExpr k text false s r w) (rawE e (suc (suc r)) value [] v st)
-  expr-walked e h ok few inside ends f p q still = walked f p q (expr-step e k r asValue h ok few (stands-at p q) (record { lambdas = flat f; inside = inside; ends = ends; still = still }))
+  expr-walked e h ok few inside ends f p still = walked f p (expr-step e k r asValue h ok few (stands-at p) (record { lambdas = flat f; inside = inside; ends = ends; still = still }))
 
   pub exprs-walked : (es : Exprs) → Here rows r (rowsEs es) → WordedEs es → lenEs es ≤ k → r + lenEs es ≤ s .end → s .end ≤ length rows → Flat s v
-      → At text rows num ns s [] v st seen w r → Places r seen → Still ns v st r (r + lenEs es)
+      → At text rows num ns s [] v st seen w r → Still ns v st r (r + lenEs es)
       → Walked text rows num ns s v st seen r (lenEs es) w (walkExprs k text s r (r + lenEs es) w) (rawEs es (suc (suc r)) [] v st)
-  exprs-walked es h ok few inside ends f p q still = walked f p q (exprs-step es k r h ok few (stands-at p q) (record { lambdas = flat f; inside = inside; ends = ends; still = still }))
+  exprs-walked es h ok few inside ends f p still = walked f p (exprs-step es k r h ok few (stands-at p) (record { lambdas = flat f; inside = inside; ends = ends; still = still }))

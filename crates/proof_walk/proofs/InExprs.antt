@@ -7,7 +7,6 @@ use mathlib.Core.Path.{_≡_, refl, sym, ap, ap₂, _∙_, subst}
 use mathlib.Core.Bool.{Bool, true, false, cond, _&&_, _||_, false≢true, true≢false}
 use mathlib.Core.List.{List, [], _∷_, _++_, append-assoc, map-append}
 use lib.Dec.{eqb, leb}
-use lib.ListN.{length}
 use borrow.Author.Tests.{ne-eqb}
 use Rattle.spec_text.specs.Bytes.{Bytes, Part, mem, same, any}
 use Rattle.spec_faults.specs.Position.{Placed, Home, inModule, inDef}
@@ -19,17 +18,12 @@ use Rattle.work_rows.specs.Rows.{Row}
 use Rattle.work_marks.specs.MarksModel.{lambdaEnd, blockEnd, slotAt, stampAt}
 use Rattle.work_marks.proofs.Writes.{Words, Kept, kept-refl, kept-trans}
 use Rattle.walk_scopes.specs.declared.ScopeStack.{ScopeStack}
-use Rattle.proof_walk.specs.Table.{Table}
-use Rattle.proof_walk.specs.Notes.{Note, noteOf}
+use Rattle.proof_walk.specs.Notes.{Note}
 use Rattle.proof_walk.specs.Slots.{keyOf, slotsFrom, keys}
-use Rattle.proof_walk.proofs.State.{homeNumber, Open, Stamped, blamed, placeOf}
+use Rattle.proof_walk.proofs.State.{Open, Stamped, blamed, placeOf, Places, AtRow}
 use Rattle.proof_walk.proofs.PartRows.{table-kept}
 
 -- ---- names that a lambda is blamed for
--- a capture before row r has its place at a line before that row's
-abbrev pub Places : ℕ → List Fault → Type 0
-Places r seen = Each (λ (g : Fault). (0 < g .place) × (g .place < suc (suc r))) seen
-
 pub places-on : {r i : ℕ} → r ≤ i → (seen : List Fault) → Places r seen → Places i seen
 places-on l seen p = each-map _ _ (λ g h. (h .0, omega arith)) seen p
 
@@ -74,18 +68,9 @@ pub data Captured (home : Home) (locals : List Part) (st : State) (x : Bytes) : 
   notAssigned : home ≡ inDef → mem x locals ≡ true → mem x (st .assigned) ≡ false → Captured home locals st x
   notInView : home ≡ inModule → mem x locals ≡ false → mem x (st .view) ≡ false → Captured home locals st x
 
--- all of `At` but what is assigned
+-- at row r of an expression, with what holds of those names
 pub record Stands (text : Bytes) (rows : List Row) (num : Bytes → ℕ) (ns : List Note) (s : ScopeStack) (ls : List Placed) (v : Env) (st : State) (seen : List Fault) (w : List ℕ) (r : ℕ) : Type 0 where
-  pub table : Table text rows num w
-  pub words : Words w
-  pub home : s .home ≡ homeNumber (v .home)
-  pub view : (x : Bytes) → num x < 4_096 → Open (s .end) r (blockEnd w (num x)) (mem x (st .view))
-  pub params : (x : Bytes) → num x < 4_096 → Open (s .inner) r (lambdaEnd w (num x)) (mem x (v .params) || blamed (placeOf ls) seen x)
-  pub own : v .home ≡ inDef → Stamped num w (s .block) ns
-  pub locals : v .home ≡ inDef → (x : Bytes) → mem x (v .locals) ≡ noteOf ns x
-  pub others : (v .home ≡ inDef → ⊥) → (x : Bytes) → mem x (v .locals) ≡ false
-  pub clean : (i : ℕ) → r ≤ i → i < length rows → slotAt w i ≡ 0
-  pub places : Places r seen
+  pub row : AtRow text rows num ns s ls v (st .view) seen w r
   pub captured : (x : Bytes) → blamed (placeOf ls) seen x ≡ true → Captured (v .home) (v .locals) st x
   pub far : (x : Bytes) → num x < 4_096 → blamed (placeOf ls) seen x ≡ true → s .outer ≤ lambdaEnd w (num x)
 
@@ -185,7 +170,7 @@ module _ {num : Bytes → ℕ} {s : ScopeStack} {ls : List Placed} {v : Env} {st
     pub step-quiet : (n : ℕ) (fs : List Fault) → slotsFrom w r n ≡ [] → dedupe seen fs ≡ [] → seenAfter seen fs ≡ seen → Step num s ls v st seen r n w w fs
     step-quiet n fs c d e = record {
       kept = kept-refl w;
-      words = p .words;
+      words = p .row .words;
       slots = c ∙ ap keys (sym d);
       before = λ i l. refl;
       beyond = λ i l. refl;
@@ -196,22 +181,24 @@ module _ {num : Bytes → ℕ} {s : ScopeStack} {ls : List Placed} {v : Env} {st
       most = λ x l. omega arith;
       far = λ x l b. p .far x l (ap (λ t. blamed (placeOf ls) t x) (sym e) ∙ b);
       captured = λ x b. p .captured x (ap (λ t. blamed (placeOf ls) t x) (sym e) ∙ b);
-      places = subst (Places (r + n)) (sym e) (places-on (omega arith) seen (p .places));
+      places = subst (Places (r + n)) (sym e) (places-on (omega arith) seen (p .row .places));
     }
 
     -- at a later row, where nothing was walked between
     pub stands-on : {i : ℕ} → r ≤ i → Stands text rows num ns s ls v st seen w i
     stands-on l = record {
-      table = p .table;
-      words = p .words;
-      home = p .home;
-      view = λ x j. open-on l (p .view x j);
-      params = λ x j. open-on l (p .params x j);
-      own = p .own;
-      locals = p .locals;
-      others = p .others;
-      clean = λ i j k. p .clean i (omega arith) k;
-      places = places-on l seen (p .places);
+      row = record {
+        table = p .row .table;
+        words = p .row .words;
+        home = p .row .home;
+        view = λ x j. open-on l (p .row .view x j);
+        params = λ x j. open-on l (p .row .params x j);
+        own = p .row .own;
+        locals = p .row .locals;
+        others = p .row .others;
+        clean = λ i j k. p .row .clean i (omega arith) k;
+        places = places-on l seen (p .row .places);
+      };
       captured = p .captured;
       far = p .far;
     }
@@ -220,16 +207,18 @@ module _ {num : Bytes → ℕ} {s : ScopeStack} {ls : List Placed} {v : Env} {st
     pub onward : {n : ℕ} {z : List ℕ} {fs : List Fault} → s .inner ≤ s .outer → Step num s ls v st seen r n w z fs
         → Stands text rows num ns s ls v st (seenAfter seen fs) z (r + n)
     onward {n} {z} {fs} low q = record {
-      table = table-kept (q .kept) (p .table);
-      words = q .words;
-      home = p .home;
-      view = λ x l. subst (λ m. Open (s .end) (r + n) m (mem x (st .view))) (sym (q .blocks (num x))) (open-on (omega arith) (p .view x l));
-      params = λ x l. marked x l (mem x (v .params)) (blamed (placeOf ls) (seenAfter seen fs) x) refl refl;
-      own = λ d. stamped-on (q .stamps) (p .own d);
-      locals = p .locals;
-      others = p .others;
-      clean = λ i l k. q .beyond i l ∙ p .clean i (omega arith) k;
-      places = q .places;
+      row = record {
+        table = table-kept (q .kept) (p .row .table);
+        words = q .words;
+        home = p .row .home;
+        view = λ x l. subst (λ m. Open (s .end) (r + n) m (mem x (st .view))) (sym (q .blocks (num x))) (open-on (omega arith) (p .row .view x l));
+        params = λ x l. marked x l (mem x (v .params)) (blamed (placeOf ls) (seenAfter seen fs) x) refl refl;
+        own = λ d. stamped-on (q .stamps) (p .row .own d);
+        locals = p .row .locals;
+        others = p .row .others;
+        clean = λ i l k. q .beyond i l ∙ p .row .clean i (omega arith) k;
+        places = q .places;
+      };
       captured = q .captured;
       far = q .far;
     }
@@ -237,7 +226,7 @@ module _ {num : Bytes → ℕ} {s : ScopeStack} {ls : List Placed} {v : Env} {st
         marked : (x : Bytes) → num x < 4_096 → (a b : Bool) → mem x (v .params) ≡ a → blamed (placeOf ls) (seenAfter seen fs) x ≡ b
             → Open (s .inner) (r + n) (lambdaEnd z (num x)) (mem x (v .params) || blamed (placeOf ls) (seenAfter seen fs) x)
         marked x l true b e d = record {
-          far = λ _. omega (arith, p .params x l .far (ap (λ t. t || blamed (placeOf ls) seen x) e), q .up x l);
+          far = λ _. omega (arith, p .row .params x l .far (ap (λ t. t || blamed (placeOf ls) seen x) e), q .up x l);
           closed = λ c. absurd (true≢false (sym (ap (λ t. t || blamed (placeOf ls) (seenAfter seen fs) x) e) ∙ c));
         }
         marked x l false true e d = record {
@@ -246,5 +235,5 @@ module _ {num : Bytes → ℕ} {s : ScopeStack} {ls : List Placed} {v : Env} {st
         }
         marked x l false false e d = record {
           far = λ c. absurd (false≢true (sym (ap₂ _||_ e d) ∙ c));
-          closed = λ _. omega (arith, q .near x l d, p .params x l .closed (ap₂ _||_ e (blamed-before (placeOf ls) x seen fs d)));
+          closed = λ _. omega (arith, q .near x l d, p .row .params x l .closed (ap₂ _||_ e (blamed-before (placeOf ls) x seen fs d)));
         }

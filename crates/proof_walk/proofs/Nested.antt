@@ -28,7 +28,7 @@ use Rattle.proof_walk.specs.Notes.{Note, notesD, noteOf}
 use Rattle.proof_walk.proofs.State.{homeNumber, Open, Raised, Stamped, Fair, blamed, At}
 use Rattle.proof_walk.proofs.PartRows.{table-kept}
 use Rattle.proof_walk.proofs.Opened.{Bound, OpenedDef, opened-def}
-use Rattle.proof_walk.proofs.InExprs.{Places, slots-same}
+use Rattle.proof_walk.proofs.InExprs.{slots-same}
 use Rattle.proof_walk.proofs.Exprs.{Flat}
 use Rattle.proof_walk.proofs.Done.{raised-same, raised-then, raised-far, open-raised, slots-then, Right, Done}
 
@@ -103,7 +103,6 @@ Viewed num {s = s} {v = v} b w = v .home ≡ inDef → (x : Bytes) → num x < 4
 -- at row r of the block
 pub record Ready (text : Bytes) (num : Bytes → ℕ) {rows : List Row} {ns : List Note} {s : ScopeStack} {v : Env} (b : Block rows ns s v) (st : State) (seen : List Fault) (w : List ℕ) (r : ℕ) : Type 0 where
   pub at : At text rows num ns s [] v st seen w r
-  pub places : Places r seen
   pub past : v .home ≡ inDef → s .block < r
   pub viewed : Viewed num b w
 
@@ -123,7 +122,6 @@ module _ {text : Bytes} {rows : List Row} {num : Bytes → ℕ} {ns : List Note}
       → Ready text num b st′ (seenAfter seen fs) w′ e
   ready-on h d = record {
     at = d .after;
-    places = d .places;
     past = λ i. omega (arith, h .past i, d .far);
     viewed = λ i x l m. omega (arith, h .viewed i x l m, d .change .blocks x l .up);
   }
@@ -134,26 +132,29 @@ module _ {text : Bytes} {rows : List Row} {num : Bytes → ℕ} {ns : List Note}
       → (v′ .home ≡ inDef → Stamped num w₂ r ns′) → (v′ .home ≡ inDef → (x : Bytes) → mem x (v′ .locals) ≡ noteOf ns′ x) → ((v′ .home ≡ inDef → ⊥) → (x : Bytes) → mem x (v′ .locals) ≡ false)
       → Right ns′ v′ ps (suc r) → At text rows num ns′ (pushed s hm r stop) [] v′ (entered ps st₁) (seenAfter seen fs) w₂ (suc r)
   enter {st} {st₁} {seen} {fs} {w} {w₁} {w₂} {r} {stop} {ps} ns′ v′ hm p q inner home params own locals others right = record {
-    table = table-kept (q .kept) (p .after .table);
-    words = q .words;
-    home = home;
-    view = λ x l. subst (Open stop (suc r) (blockEnd w₂ (num x))) (sym (mem-append x ps (st₁ .view))) (view x l (mem x ps) refl);
-    params = λ x l. record {
-      far = λ _. omega arith;
-      closed = λ e. omega (arith, q .lambdas x l, p .after .params x l .closed (ap (λ ps. mem x ps || blamed 0 (seenAfter seen fs) x) (b .flat .params ∙ sym params) ∙ e));
+    row = record {
+      table = table-kept (q .kept) (p .after .row .table);
+      words = q .words;
+      home = home;
+      view = λ x l. subst (Open stop (suc r) (blockEnd w₂ (num x))) (sym (mem-append x ps (st₁ .view))) (view x l (mem x ps) refl);
+      params = λ x l. record {
+        far = λ _. omega arith;
+        closed = λ e. omega (arith, q .lambdas x l, p .after .row .params x l .closed (ap (λ ps. mem x ps || blamed 0 (seenAfter seen fs) x) (b .flat .params ∙ sym params) ∙ e));
+      };
+      own = own;
+      locals = locals;
+      others = others;
+      clean = λ i l k. q .slots i (omega (arith, p .after .row .table .few)) ∙ p .after .row .clean i l k;
+      places = p .after .row .places;
     };
-    own = own;
-    locals = locals;
-    others = others;
     assigned = right;
     low = λ x l. low x l (q .stamps x l);
-    clean = λ i l k. q .slots i (omega (arith, p .after .table .few)) ∙ p .after .clean i l k;
   }
     where
       view : (x : Bytes) → num x < 4_096 → (t : Bool) → mem x ps ≡ t → Open stop (suc r) (blockEnd w₂ (num x)) (t || mem x (st₁ .view))
       view x l true m = record { far = λ _. q .bound x l m; closed = λ e. absurd (true≢false e) }
       view x l false m =
-          let o = p .after .view x l in
+          let o = p .after .row .view x l in
           let e = q .other x l m in
           record { far = λ t. omega (arith, o .far t); closed = λ t. omega (arith, o .closed t) }
 
@@ -231,14 +232,13 @@ module _ {text : Bytes} {rows : List Row} {num : Bytes → ℕ} {ns : List Note}
           lambdas = λ x l. raised-then (raised-far (d .far) (p .change .lambdas x l)) (lambdas x l);
           others = λ x l c m n e. others x l c m n e (z .stamps x l);
         };
-        places = subst (λ l. Places stop l) (sym (seen-append seen fs gs)) (d .places);
       }
     where
       w₄ : List ℕ
       w₄ = reopened text s w₃
 
       few : length rows ≤ 4_096
-      few = h .at .table .few
+      few = h .at .row .table .few
 
       -- the stamps of the def around are old ones
       old : (x : Bytes) → num x < 4_096 → (c : ℕ) → c < r → stampAt w₃ (num x) / 8_192 ≡ c + 1 → stampAt w₃ (num x) ≡ stampAt w₁ (num x)
@@ -251,7 +251,7 @@ module _ {text : Bytes} {rows : List Row} {num : Bytes → ℕ} {ns : List Note}
           go (inr k) g = absurd (omega arith)
 
       z : Back num ns s v w₃ w₄
-      z = back w₃ (d .after .table) (d .after .words) (h .at .home) (λ i. stamped-fair w₁ w₃ (λ x l e. old x l (s .block) (h .past i) e) (p .after .own i))
+      z = back w₃ (d .after .row .table) (d .after .row .words) (h .at .row .home) (λ i. stamped-fair w₁ w₃ (λ x l e. old x l (s .block) (h .past i) e) (p .after .row .own i))
           (λ i x l m. omega (arith, h .viewed i x l m, p .change .blocks x l .up, q .blocks x l .up, d .change .blocks x l .up))
 
       kept : Kept w₁ w₄
@@ -283,18 +283,21 @@ module _ {text : Bytes} {rows : List Row} {num : Bytes → ℕ} {ns : List Note}
 
       at : At text rows num ns s [] v st₁ (seenAfter (seenAfter seen fs) gs) w₄ stop
       at = record {
-        table = table-kept kept (p .after .table);
-        words = z .words;
-        home = h .at .home;
-        view = λ x l. open-raised (p .after .view x l) (d .far) (raised x l);
-        params = λ x l. record {
-          far = λ _. omega (arith, b .flat .inner);
-          closed = λ e. omega (arith, z .lambdas x l, d .after .params x l .closed (ap (λ ps. mem x ps || blamed 0 (seenAfter (seenAfter seen fs) gs) x) (flat .params ∙ sym (b .flat .params)) ∙ e));
+        row = record {
+          table = table-kept kept (p .after .row .table);
+          words = z .words;
+          home = h .at .row .home;
+          view = λ x l. open-raised (p .after .row .view x l) (d .far) (raised x l);
+          params = λ x l. record {
+            far = λ _. omega (arith, b .flat .inner);
+            closed = λ e. omega (arith, z .lambdas x l, d .after .row .params x l .closed (ap (λ ps. mem x ps || blamed 0 (seenAfter (seenAfter seen fs) gs) x) (flat .params ∙ sym (b .flat .params)) ∙ e));
+          };
+          own = z .own;
+          locals = h .at .row .locals;
+          others = h .at .row .others;
+          clean = λ i l k. z .slots i (omega (arith, few)) ∙ d .after .row .clean i l k;
+          places = d .after .row .places;
         };
-        own = z .own;
-        locals = h .at .locals;
-        others = h .at .others;
         assigned = right;
         low = λ x l. low x l (z .stamps x l);
-        clean = λ i l k. z .slots i (omega (arith, few)) ∙ d .after .clean i l k;
       }

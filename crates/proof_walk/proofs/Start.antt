@@ -167,31 +167,33 @@ module _ (text : Bytes) (rows : List Row) (num : Bytes → ℕ) where
   view-same {v = v} e d = record {
     far = d .far;
     after = record {
-      table = d .after .table;
-      words = d .after .words;
-      home = d .after .home;
-      view = λ x l. subst (Open (length rows) 0 (blockEnd v (num x))) (e x l) (d .after .view x l);
-      params = d .after .params;
-      own = d .after .own;
-      locals = d .after .locals;
-      others = d .after .others;
+      row = record {
+        table = d .after .row .table;
+        words = d .after .row .words;
+        home = d .after .row .home;
+        view = λ x l. subst (Open (length rows) 0 (blockEnd v (num x))) (e x l) (d .after .row .view x l);
+        params = d .after .row .params;
+        own = d .after .row .own;
+        locals = d .after .row .locals;
+        others = d .after .row .others;
+        clean = d .after .row .clean;
+        places = d .after .row .places;
+      };
       assigned = d .after .assigned;
       low = d .after .low;
-      clean = d .after .clean;
     };
     slots = d .slots;
     change = d .change;
-    places = d .places;
   }
 
   stays : {ps : List Part} {w : List ℕ} → A ps w → G ps ps w w
-  stays h = done-skip h tt [] (omega arith) (omega arith) none
+  stays h = done-skip h [] (omega arith) (omega arith) none
 
   bind-one : (p : Part) {ps : List Part} {w : List ℕ} → A ps w → G ps (p ∷ ps) w (defined (atModule (length rows)) w (num (p .bytes)))
   bind-one p {ps} {w} h = go (ltb (num (p .bytes)) 4_096) refl
     where
       go : (t : Bool) → ltb (num (p .bytes)) 4_096 ≡ t → G ps (p ∷ ps) w (defined (atModule (length rows)) w (num (p .bytes)))
-      go true e = done-bind h tt p [] refl (omega (arith, h .table .few)) (ltb-true (num (p .bytes)) 4_096 e) (omega arith) (omega arith) none
+      go true e = done-bind h p [] refl (omega (arith, h .row .table .few)) (ltb-true (num (p .bytes)) 4_096 e) (omega arith) (omega arith) none
       go false e =
           let l : 4_096 ≤ num (p .bytes) = ltb-false (num (p .bytes)) 4_096 e in
           subst (G ps (p ∷ ps) w) (sym (defined-none (atModule (length rows)) w (num (p .bytes)) refl l))
@@ -211,7 +213,7 @@ module _ (text : Bytes) (rows : List Row) (num : Bytes → ℕ) where
   given-done [] c h = stays h
   given-done (p ∷ ps) c {qs} {w} h =
       let d : G qs (p ∷ qs) w (defined (atModule (length rows)) w (lookup text w (p .bytes))) =
-      subst (λ a. G qs (p ∷ qs) w (defined (atModule (length rows)) w a)) (sym (h .table .found (p .bytes) (c .0))) (bind-one p h) in
+      subst (λ a. G qs (p ∷ qs) w (defined (atModule (length rows)) w a)) (sym (h .row .table .found (p .bytes) (c .0))) (bind-one p h) in
       bind-then p ps d (given-done ps (c .1) (d .after))
 
   -- and those of `global` lines
@@ -221,7 +223,7 @@ module _ (text : Bytes) (rows : List Row) (num : Bytes → ℕ) where
   globals-done [] i part c here h = stays h
   globals-done (p ∷ ps) i part c here {qs} {w} h =
       let d : G qs (p ∷ qs) w (defined (atModule (length rows)) w (numberAt w i)) =
-      subst (λ a. G qs (p ∷ qs) w (defined (atModule (length rows)) w a)) (sym (row-number (h .table) here (c .0))) (bind-one p h) in
+      subst (λ a. G qs (p ∷ qs) w (defined (atModule (length rows)) w a)) (sym (row-number (h .row .table) here (c .0))) (bind-one p h) in
       bind-then p ps d (globals-done ps (i + 1) part (c .1) (subst (λ j. Here rows j (map globalRow ps ++ part)) (sym (add-one i)) (here-tail here)) (d .after))
 
 -- ---- the whole walk: its rows hold the tree; numbers of names are rows; no mark of a lambda is open
@@ -246,17 +248,20 @@ module _ (text : Bytes) (t : Tree) (num : Bytes → ℕ) (w : List ℕ) (table :
       let few = table .few in
       let z = clears in
       record {
-        table = table-kept (z .kept) table;
-        words = z .words;
-        home = refl;
-        view = λ x l. record { far = λ e. absurd (false≢true e); closed = λ _. omega (arith, z .heads (num x) (omega arith) (omega (arith, small x l))) };
-        params = λ x l. record { far = λ e. absurd (false≢true e); closed = λ _. omega (arith, z .lambdas (num x) l, closed (num x) (small x l)) };
-        own = λ i. none text (rowsT t) num i;
-        locals = λ i. none text (rowsT t) num i;
-        others = λ _ x. refl;
+        row = record {
+          table = table-kept (z .kept) table;
+          words = z .words;
+          home = refl;
+          view = λ x l. record { far = λ e. absurd (false≢true e); closed = λ _. omega (arith, z .heads (num x) (omega arith) (omega (arith, small x l))) };
+          params = λ x l. record { far = λ e. absurd (false≢true e); closed = λ _. omega (arith, z .lambdas (num x) l, closed (num x) (small x l)) };
+          own = λ i. none text (rowsT t) num i;
+          locals = λ i. none text (rowsT t) num i;
+          others = λ _ x. refl;
+          clean = λ i _ l. omega (arith, z .heads i (omega arith) (omega arith));
+          places = tt;
+        };
         assigned = λ i. none text (rowsT t) num i;
         low = λ x l. omega (arith, z .stamps (num x) (omega arith) (omega (arith, small x l)));
-        clean = λ i _ l. omega (arith, z .heads i (omega arith) (omega arith));
       }
 
   everything : Here (rowsT t) 0 (rowsT t)
@@ -288,7 +293,7 @@ module _ (text : Bytes) (t : Tree) (num : Bytes → ℕ) (w : List ℕ) (table :
       let size : R ≡ first + lenSs (t .body) = rows-length t in
       let few = table .few in
       let top : Done text (rowsT t) num [] (atModule R) moduleEnv (startState t) (startState t) [] [] started started 0 first =
-      done-skip (bound .after) tt [] (omega arith) (omega arith) (none text (rowsT t) num) in
+      done-skip (bound .after) [] (omega arith) (omega arith) (none text (rowsT t) num) in
       let b : Block (rowsT t) [] (atModule R) moduleEnv = record {
         flat = record { outer = refl; inner = refl; params = refl };
         room = omega arith;
@@ -298,10 +303,10 @@ module _ (text : Bytes) (t : Tree) (num : Bytes → ℕ) (w : List ℕ) (table :
       } in
       looped-end (λ z. rows-end afterRow (walkLine R text (atModule R)) (first + lenSs (t .body)) R z (omega arith))
       (stmts text (rowsT t) num (t .body) R first (firstLine t) (first + lenSs (t .body)) R b refl (omega arith) (omega arith) (omega arith) (omega arith) (omega arith)
-      body worded (record { at = top .after; places = tt; past = none text (rowsT t) num; viewed = none text (rowsT t) num }) (none text (rowsT t) num))
+      body worded (record { at = top .after; past = none text (rowsT t) num; viewed = none text (rowsT t) num }) (none text (rowsT t) num))
 
   pub started-kept : Kept w started
   started-kept = kept-trans (clears .kept) (bound .change .kept)
 
   pub started-clean : (i : ℕ) → i < R → slotAt started i ≡ 0
-  started-clean i l = bound .after .clean i (omega arith) l
+  started-clean i l = bound .after .row .clean i (omega arith) l

@@ -1,15 +1,16 @@
 -- What holds at each row of the walk: the marks that are open are those of the names in view and of the parameters of the lambdas around; the
 -- stamps are those of the def around; no row from here on has a slot.
 -- A mark is either open up to the end of the block around, at least, or closed already: this is what leaving a block has to keep.
-use Prim.Native.Nat.{ℕ, _+_, _/_, _%_, _≤_, _<_, max}
+use Prim.Native.Nat.{ℕ, suc, _+_, _/_, _%_, _≤_, _<_, max}
 use mathlib.Core.Path.{_≡_}
 use mathlib.Core.Bool.{Bool, true, false, _&&_, _||_}
 use mathlib.Core.List.{List, [], _∷_}
 use lib.Dec.{eqb, leb}
 use lib.ListN.{length}
-use Rattle.spec_text.specs.Bytes.{Bytes, mem, same, any}
+use Rattle.spec_text.specs.Bytes.{Bytes, Part, mem, same, any}
 use Rattle.spec_faults.specs.Position.{Placed, Home, inModule, inDef, inMethod}
 use Rattle.spec_faults.specs.Faults.{Fault, outermost}
+use Rattle.spec_faults.proofs.Lists.{Each}
 use Rattle.spec_faults.proofs.ListingWalk.{State, Env}
 use Rattle.work_rows.specs.Rows.{Row}
 use Rattle.work_marks.specs.MarksModel.{lambdaEnd, blockEnd, slotAt, stampAt}
@@ -53,16 +54,25 @@ abbrev pub placeOf : List Placed → ℕ
 placeOf [] = 0
 placeOf (p ∷ ps) = outermost p ps .number
 
--- at row r
-pub record At (text : Bytes) (rows : List Row) (num : Bytes → ℕ) (ns : List Note) (s : ScopeStack) (ls : List Placed) (v : Env) (st : State) (seen : List Fault) (w : List ℕ) (r : ℕ) : Type 0 where
+-- a capture before row r has its place at a line before that row's
+abbrev pub Places : ℕ → List Fault → Type 0
+Places r seen = Each (λ (g : Fault). (0 < g .place) × (g .place < suc (suc r))) seen
+
+-- at row r, where the names vs are in view: all but what is assigned
+pub record AtRow (text : Bytes) (rows : List Row) (num : Bytes → ℕ) (ns : List Note) (s : ScopeStack) (ls : List Placed) (v : Env) (vs : List Part) (seen : List Fault) (w : List ℕ) (r : ℕ) : Type 0 where
   pub table : Table text rows num w
   pub words : Words w
   pub home : s .home ≡ homeNumber (v .home)
-  pub view : (x : Bytes) → num x < 4_096 → Open (s .end) r (blockEnd w (num x)) (mem x (st .view))
+  pub view : (x : Bytes) → num x < 4_096 → Open (s .end) r (blockEnd w (num x)) (mem x vs)
   pub params : (x : Bytes) → num x < 4_096 → Open (s .inner) r (lambdaEnd w (num x)) (mem x (v .params) || blamed (placeOf ls) seen x)
   pub own : v .home ≡ inDef → Stamped num w (s .block) ns
   pub locals : v .home ≡ inDef → (x : Bytes) → mem x (v .locals) ≡ noteOf ns x
   pub others : (v .home ≡ inDef → ⊥) → (x : Bytes) → mem x (v .locals) ≡ false
+  pub clean : (i : ℕ) → r ≤ i → i < length rows → slotAt w i ≡ 0
+  pub places : Places r seen
+
+-- the same, with what is assigned
+pub record At (text : Bytes) (rows : List Row) (num : Bytes → ℕ) (ns : List Note) (s : ScopeStack) (ls : List Placed) (v : Env) (st : State) (seen : List Fault) (w : List ℕ) (r : ℕ) : Type 0 where
+  pub row : AtRow text rows num ns s ls v (st .view) seen w r
   pub assigned : v .home ≡ inDef → (x : Bytes) → mem x (st .assigned) ≡ assignedBy ns x r
   pub low : (x : Bytes) → num x < 4_096 → stampAt w (num x) / 8_192 ≤ r
-  pub clean : (i : ℕ) → r ≤ i → i < length rows → slotAt w i ≡ 0

@@ -58,7 +58,7 @@ module _ (text : Bytes) (rows : List Row) (num : Bytes → ℕ) where
 
     -- the row of a statement that has no fault and binds nothing
     head : {st : State} {seen : List Fault} {w : List ℕ} {r : ℕ} → R st seen w r → suc r ≤ s .end → Right ns v (st .assigned) (suc r) → D st st seen [] w w r (suc r)
-    head {st} h l right = done-skip (h .at) (h .places) (st .assigned) (omega arith) (omega (arith, b .room)) right
+    head {st} h l right = done-skip (h .at) (st .assigned) (omega arith) (omega (arith, b .room)) right
 
     -- an expression; a are the assigned names after it
     expr-done : (e : Expr) (r n : ℕ) (a : List Part) {st : State} {seen : List Fault} {w : List ℕ} → n ≡ suc (suc r) → lenE e ≤ k → r + lenE e ≤ s .end → Here rows r (rowsE e)
@@ -66,14 +66,14 @@ module _ (text : Bytes) (rows : List Row) (num : Bytes → ℕ) where
         → D st (record { view = st .view; assigned = a }) seen (rawE e n value [] v st) w (walkExpr k text false s r w) r (r + lenE e)
     expr-done e r n a {st} q f l here d h still right =
         done-to refl (ap (λ i. rawE e i value [] v st) (sym q))
-        (done-walked a refl right (expr-walked k r e here d f l (b .room) (b .flat) (h .at) (h .places) still))
+        (done-walked a refl right (expr-walked k r e here d f l (b .room) (b .flat) (h .at) still))
 
     -- the same as a line of a loop
     expr-looped : (e : Expr) (r n stop : ℕ) (a : List Part) {st : State} {seen : List Fault} {w : List ℕ} → n ≡ suc (suc r) → lenE e ≤ k → r + lenE e ≤ stop → stop ≤ s .end
         → Here rows r (rowsE e) → WordedE e → R st seen w r → Still ns v st r (r + lenE e) → Right ns v a (r + lenE e)
         → L stop st (record { view = st .view; assigned = a }) seen (rawE e n value [] v st) w r (r + lenE e)
     expr-looped e r n stop a {w = w} q f l m here d h still right =
-        looped-one (line-expr text k s stop r w (omega arith) (r + lenE e) (after-E (h .at .table) e here) (word-E (h .at .table) e here d))
+        looped-one (line-expr text k s stop r w (omega arith) (r + lenE e) (after-E (h .at .row .table) e here) (word-E (h .at .row .table) e here d))
         (expr-done e r n a q f (omega arith) here d h still right)
 
     exprs-looped : (es : Exprs) (r n stop : ℕ) {st : State} {seen : List Fault} {w : List ℕ} → n ≡ suc (suc r) → lenEs es ≤ k → r + lenEs es ≤ stop → stop ≤ s .end
@@ -82,7 +82,7 @@ module _ (text : Bytes) (rows : List Row) (num : Bytes → ℕ) where
     exprs-looped enil r n stop {st} {w = w} q f l m here d h by =
         let e : r ≡ r + 0 = omega arith in
         looped-one (ap (λ i. kids text k s stop i w) e)
-        (done-skip (h .at) (h .places) (st .assigned) (omega arith) (omega (arith, b .room)) (λ i x. none-still (by i) x (r + 0) (omega arith) (omega arith)))
+        (done-skip (h .at) (st .assigned) (omega arith) (omega (arith, b .room)) (λ i x. none-still (by i) x (r + 0) (omega arith) (omega arith)))
     exprs-looped (econs e es) r n stop {st} {seen} {w} q f l m here d h by =
         let first : L stop st st seen (rawE e n value [] v st) w r (r + lenE e) =
         expr-looped e r n stop (st .assigned) q (omega arith) (omega arith) m (here-left (rowsE e) (rowsEs es) here) (d .0) h
@@ -97,7 +97,7 @@ module _ (text : Bytes) (rows : List Row) (num : Bytes → ℕ) where
         → D st st′ seen fs w (walkStmt (suc k) text s r w) r (r + suc below)
     plain-done l below part r {st} {st′} {seen} {fs} {w} p here h d {e} q g =
         subst (λ z. D st st′ seen fs w z r (r + suc below))
-        (sym (at-plain text k s r w (row-few (h .at .table) here) (r + suc below) (row-after (h .at .table) here) (ap plain (row-kind (h .at .table) here) ∙ p)))
+        (sym (at-plain text k s r w (row-few (h .at .row .table) here) (r + suc below) (row-after (h .at .row .table) here) (ap plain (row-kind (h .at .row .table) here) ∙ p)))
         (done-then d (looped-end (λ z. rows-end afterRow (walkLine k text s) (r + suc below) (r + suc below) z (omega arith)) (looped-to q refl g)))
 
     -- up to the row after an expression nothing is assigned
@@ -145,7 +145,7 @@ module _ (text : Bytes) (rows : List Row) (num : Bytes → ℕ) where
         stop = r + lenS (def l bd)
 
         at : Table text rows num w
-        at = h .at .table
+        at = h .at .row .table
 
         inner : Block rows (notesD l bd r) (pushed s aDef r stop) (defEnv l bd)
         inner = def-block l bd r here d m
@@ -157,14 +157,14 @@ module _ (text : Bytes) (rows : List Row) (num : Bytes → ℕ) where
         w₂ = opened text (pushed s aDef r stop) r stop w₁
 
         p : D st (naming (l .name) st) seen [] w w₁ r (suc r)
-        p = done-bind (h .at) (h .places) (l .name) (st .assigned) (b .flat .inner) (omega (arith, b .room, at .few)) (row-small at here (d .1 .0)) (omega arith) (omega (arith, b .room))
+        p = done-bind (h .at) (l .name) (st .assigned) (b .flat .inner) (omega (arith, b .room, at .few)) (row-small at here (d .1 .0)) (omega arith) (omega (arith, b .room))
             (λ i x. still i x (suc r) (omega arith) (omega arith))
 
         o : OpenedDef num stop r (l .params) (notesD l bd r) w₁ w₂
-        o = opened-def (pushed s aDef r stop) refl refl l bd (p .after .table) here d refl (omega (arith, b .room, at .few))
+        o = opened-def (pushed s aDef r stop) refl refl l bd (p .after .row .table) here d refl (omega (arith, b .room, at .few))
 
         q : Entry num r stop (l .params) w₁ w₂
-        q = entry-def (p .after .words) o
+        q = entry-def (p .after .row .words) o
 
         -- no stamp of this def is there yet
         low : (x : Bytes) → num x < 4_096 → stampAt w₁ (num x) / 8_192 ≤ r
@@ -175,7 +175,6 @@ module _ (text : Bytes) (rows : List Row) (num : Bytes → ℕ) where
         ready = record {
           at = enter b (notesD l bd r) (defEnv l bd) aDef p q m refl refl (λ _. o .stamped (fair-new low)) (λ _ x. sym (locals x l bd r)) (λ no. absurd (no refl))
               (λ _. now-ss (omega (arith, b .room, at .few)) bd (def-body l bd r stop) (omega arith));
-          places = p .places;
           past = λ _. omega arith;
           viewed = λ _ x i. q .bound x i;
         }
@@ -206,7 +205,7 @@ module _ (text : Bytes) (rows : List Row) (num : Bytes → ℕ) where
         stop = r + suc (lenSs bd)
 
         at : Table text rows num w
-        at = h .at .table
+        at = h .at .row .table
 
         away : v .home ≡ inDef → ⊥
         away i = omega (arith, ap homeNumber (sym home ∙ i))
@@ -222,20 +221,19 @@ module _ (text : Bytes) (rows : List Row) (num : Bytes → ℕ) where
           where
             go : (t : Bool) → D st st seen (unless (not t) (selfless n l c)) w (cond t (putSlot w r 15) w) r (suc r)
             go true =
-                done-fault (h .at) (h .places) (selfless n l c) refl row (omega arith) (omega arith) (omega arith) (omega (arith, b .room)) (λ i. absurd (away i))
+                done-fault (h .at) (selfless n l c) refl row (omega arith) (omega arith) (omega arith) (omega (arith, b .room)) (λ i. absurd (away i))
             go false = head h (omega arith) (λ i. absurd (away i))
 
         q : Entry num r stop (l .params) w₁ w₂
-        q = entry-method (p .after .words)
-            (opened-method (pushed s aMethod r stop) refl (λ i. omega arith) (p .after .table) here word some (omega (arith, b .room, at .few)) stop)
+        q = entry-method (p .after .row .words)
+            (opened-method (pushed s aMethod r stop) refl (λ i. omega arith) (p .after .row .table) here word some (omega (arith, b .room, at .few)) stop)
 
         back : reopened text s (kids text k (pushed s aMethod r stop) stop (suc r) w₂) ≡ kids text k (pushed s aMethod r stop) stop (suc r) w₂
-        back = reopened-at text s (kids text k (pushed s aMethod r stop) stop (suc r) w₂) (h .at .home ∙ ap homeNumber home)
+        back = reopened-at text s (kids text k (pushed s aMethod r stop) stop (suc r) w₂) (h .at .row .home ∙ ap homeNumber home)
 
         ready : Ready text num (method-block l bd r m) (entered (l .params) st) (seenAfter seen (selfFault n l c)) w₂ (suc r)
         ready = record {
           at = enter b [] methodEnv aMethod p q m refl refl none none (λ _ x. refl) none;
-          places = p .places;
           past = none;
           viewed = λ _ x i. q .bound x i;
         }
@@ -267,20 +265,20 @@ module _ (text : Bytes) (rows : List Row) (num : Bytes → ℕ) where
         stop = r + lenS (class l ms ats)
 
         at : Table text rows num w
-        at = h .at .table
+        at = h .at .row .table
 
         w₁ : List ℕ
         w₁ = defined s w (num (l .name .bytes))
 
         named : (e : ℕ) → r ≤ e → e ≤ stop → D st (naming (l .name) st) seen [] w w₁ r e
-        named e p q = done-bind (h .at) (h .places) (l .name) (st .assigned) (b .flat .inner) (omega (arith, b .room, at .few)) (row-small at here (d .1 .0)) p (omega (arith, b .room))
+        named e p q = done-bind (h .at) (l .name) (st .assigned) (b .flat .inner) (omega (arith, b .room, at .few)) (row-small at here (d .1 .0)) p (omega (arith, b .room))
             (λ i x. still i x e p q)
 
         -- the test for the module
         walks : {hm : Home} → v .home ≡ hm → walkStmt (suc k) text s r w ≡ cond (eqb (homeNumber hm) module′) (kids text k s stop (suc r) w₁) w₁
         walks e =
             at-class text k s r w (row-few at here) stop (row-after at here) (row-kind at here ∙ d .0) (num (l .name .bytes)) (row-number at here (d .1 .0))
-            ∙ ap (λ n. cond (eqb n module′) (kids text k s stop (suc r) w₁) w₁) (h .at .home ∙ ap homeNumber e)
+            ∙ ap (λ n. cond (eqb n module′) (kids text k s stop (suc r) w₁) w₁) (h .at .row .home ∙ ap homeNumber e)
 
         go : (hm : Home) → v .home ≡ hm → D st (naming (l .name) st) seen (inClasses hm fs) w (walkStmt (suc k) text s r w) r stop
         go inDef e = subst (λ z. D st (naming (l .name) st) seen [] w z r stop) (sym (walks e)) (named stop (omega arith) (omega arith))
@@ -291,11 +289,11 @@ module _ (text : Bytes) (rows : List Row) (num : Bytes → ℕ) where
             let ways : L stop (naming (l .name) st) (naming (l .name) st) seen fs w₁ (suc r) (suc r + lenMs ms) = rest w₁ e h₁ in
             let h₂ : R (naming (l .name) st) (seenAfter seen fs) (ways .there) (suc r + lenMs ms) = ready-on b h₁ (ways .done) in
             let over : kids text k s stop (suc r + lenMs ms) (ways .there) ≡ ways .there =
-            attrs-over ats (suc r + lenMs ms) stop (h₂ .at .table) (here-past (sized-ms ms) (rowsAs ats) (here-tail here)) (d .1 .1 .1) (omega arith)
+            attrs-over ats (suc r + lenMs ms) stop (h₂ .at .row .table) (here-past (sized-ms ms) (rowsAs ats) (here-tail here)) (d .1 .1 .1) (omega arith)
             ∙ rows-end afterRow (walkLine k text s) (suc r + lenMs ms + lenAs ats) stop (ways .there) (omega arith) in
             subst (λ z. D st (naming (l .name) st) seen fs w z r stop) (sym (walks e ∙ ways .goes ∙ over))
             (done-to refl (append-nil fs) (done-then top (done-then (ways .done)
-            (done-skip (h₂ .at) (h₂ .places) (st .assigned) (omega arith) (omega (arith, b .room)) (λ i x. still i x stop (omega arith) (omega arith))))))
+            (done-skip (h₂ .at) (st .assigned) (omega arith) (omega (arith, b .room)) (λ i x. still i x stop (omega arith) (omega arith))))))
 
   -- ---- statements
   mutual
@@ -311,7 +309,7 @@ module _ (text : Bytes) (rows : List Row) (num : Bytes → ℕ) where
         (λ i. cut (by i) (suc r) (suc r + lenEs es) (omega arith) (omega arith)))
     stmt (assign l e t) k r n j {ns} {s} {v} b {st} {seen} {w} q f m z c here d h by =
         let stop : ℕ = r + suc (lenE e + lenE t) in
-        let at : Table text rows num w = h .at .table in
+        let at : Table text rows num w = h .at .row .table in
         let top = head b k h (omega arith) (λ i x. assign-still c l e t z (by i) x (suc r) (omega arith) (omega arith)) in
         let h₁ = ready-on b h top in
         let left : Here rows (suc r) (rowsE e) = here-left (rowsE e) (rowsE t) (here-tail here) in
@@ -324,7 +322,7 @@ module _ (text : Bytes) (rows : List Row) (num : Bytes → ℕ) where
         (λ u. rows-end nextTarget (targetAt (walkExpr k text false s) s) stop stop u (omega arith))
         (looped-to (omega arith) refl
         (target (b .flat) (b .room) k stop m t (suc r + lenE e) (suc n + lenE e) j (omega arith) (omega arith) (omega arith) (omega arith) c
-        (here-past (sized-e e) (rowsE t) (here-tail here)) (d .1 .1) (h₂ .at) (h₂ .places) (λ i. assign-target c l e t z (by i)))))))
+        (here-past (sized-e e) (rowsE t) (here-tail here)) (d .1 .1) (h₂ .at) (λ i. assign-target c l e t z (by i)))))))
     stmt (block l e bd) k r n j b {st} q f m z c here d h by =
         test-done b k l e (lenE e + lenSs bd) (rowsSs bd) r n (plain-block (d .0)) q (omega arith) m (omega arith) here (d .1 .0) h (λ i. block-still c l e bd z (by i))
         (λ u h. looped-to (omega arith) refl
@@ -347,7 +345,7 @@ module _ (text : Bytes) (rows : List Row) (num : Bytes → ℕ) where
         (here-past (sized-ss ks) (rowsSs es) last) (d .1 .1 .1 .1) (ready-on b h₁ (two .done)) (λ i. choice-else c l e bd ks es st z (by i))))))
     stmt (for l e bd) k r n j {ns} {s} {v} b {st} {seen} {w} q f m z c here d h by =
         let stop : ℕ = r + suc (lenE e + lenSs bd) in
-        let at : Table text rows num w = h .at .table in
+        let at : Table text rows num w = h .at .row .table in
         let top = head b k h (omega arith) (λ i x. for-still c l e bd z (by i) x (suc r) (omega arith) (omega arith)) in
         let h₁ = ready-on b h top in
         let left : Here rows (suc r) (rowsE e) = here-left (rowsE e) (rowsSs bd) (here-tail here) in
@@ -355,7 +353,7 @@ module _ (text : Bytes) (rows : List Row) (num : Bytes → ℕ) where
         let val = expr-done b k e (suc r) (suc n) (l .name ∷ st .assigned) (omega arith) (omega arith) (omega arith) left (d .1 .1 .0) h₁
         (λ i x a u y. for-still c l e bd z (by i) x a (omega arith) y) right in
         let h₂ = ready-on b h₁ val in
-        let name = done-bind (h₂ .at) (h₂ .places) (l .name) (l .name ∷ st .assigned) (b .flat .inner) (omega (arith, b .room, at .few)) (row-small at here (d .1 .0)) (omega arith)
+        let name = done-bind (h₂ .at) (l .name) (l .name ∷ st .assigned) (b .flat .inner) (omega (arith, b .room, at .few)) (row-small at here (d .1 .0)) (omega arith)
         (omega (arith, b .room)) right in
         subst (λ u. Done text rows num ns s v st (afterSs bd (assigning (l .name) st)) seen (rawE e (suc n) value [] v st ++ rawSs bd (suc n + lenE e) [] v (assigning (l .name) st)) w u r stop)
         (sym (at-for text k s r w (row-few at here) stop (row-after at here) (row-kind at here ∙ d .0) (suc r + lenE e) (after-E at e left) (num (l .name .bytes)) (row-number at here (d .1 .0))))
@@ -380,7 +378,7 @@ module _ (text : Bytes) (rows : List Row) (num : Bytes → ℕ) where
     stmts snil k r n j stop {s = s} b {st} {w = w} q f l m z c here d h by =
         let e : r ≡ r + 0 = omega arith in
         looped-one (ap (λ i. kids text k s stop i w) e)
-        (done-skip (h .at) (h .places) (st .assigned) (omega arith) (omega (arith, b .room)) (λ i x. none-still (by i) x (r + 0) (omega arith) (omega arith)))
+        (done-skip (h .at) (st .assigned) (omega arith) (omega (arith, b .room)) (λ i x. none-still (by i) x (r + 0) (omega arith) (omega arith)))
     stmts (scons t ts) k r n j stop {ns} {s} {v} b {st} {seen} {w} q f l m z c here d h by =
         let some : 0 < lenS t = some-stmt t in
         let less : suc (k - 1) ≡ k = omega arith in
@@ -388,7 +386,7 @@ module _ (text : Bytes) (rows : List Row) (num : Bytes → ℕ) where
         subst (λ i. Done text rows num ns s v st (afterS t st) seen (rawS t n [] v st) w (walkStmt i text s r w) r (r + lenS t)) less
         (stmt t (k - 1) r n (r + lenS t) b q (omega arith) (omega arith) (omega arith) (omega arith) (here-left (rowsS t) (rowsSs ts) here) (d .0) h (λ i. stmts-first c t ts z (by i))) in
         looped-to (omega arith) refl (looped-then
-        (line-stmt text k s stop r w (omega arith) (r + lenS t) (after-S (h .at .table) t (here-left (rowsS t) (rowsSs ts) here)) (stmt-kind (h .at .table) t (here-left (rowsS t) (rowsSs ts) here) (d .0)))
+        (line-stmt text k s stop r w (omega arith) (r + lenS t) (after-S (h .at .row .table) t (here-left (rowsS t) (rowsSs ts) here)) (stmt-kind (h .at .row .table) t (here-left (rowsS t) (rowsSs ts) here) (d .0)))
         first
         (stmts ts k (r + lenS t) (n + lenS t) j stop b (omega arith) (omega arith) (omega arith) m (omega arith) c (here-past (sized-s t) (rowsSs ts) here) (d .1)
         (ready-on b h first) (λ i. stmts-rest c t ts st z (by i))))
@@ -399,7 +397,7 @@ module _ (text : Bytes) (rows : List Row) (num : Bytes → ℕ) where
     methods mnil k r n stop c {s = s} b {st} {w = w} q f l m i here d h =
         let e : r ≡ r + 0 = omega arith in
         looped-one (ap (λ i. kids text k s stop i w) e)
-        (done-skip (h .at) (h .places) (st .assigned) (omega arith) (omega (arith, b .room)) (λ g. absurd (omega (arith, ap homeNumber (sym i ∙ g)))))
+        (done-skip (h .at) (st .assigned) (omega arith) (omega (arith, b .room)) (λ g. absurd (omega (arith, ap homeNumber (sym i ∙ g)))))
     methods (mcons g bd ms) k r n stop c {ns} {s} {v} b {st} {seen} {w} q f l m i here d h =
         let less : suc (k - 1) ≡ k = omega arith in
         let u : r + suc (lenSs bd) ≤ s .end = omega arith in
@@ -411,10 +409,10 @@ module _ (text : Bytes) (rows : List Row) (num : Bytes → ℕ) where
         (method-done b (k - 1) g c bd (rowsSs bd ++ rowsMs ms) r n u q here (d .0) (d .1 .1 .0) i h
         (λ z h. looped-to a refl
         (stmts bd (k - 1) (suc r) (suc n) (suc r + lenSs bd) (r + suc (lenSs bd)) (method-block b (k - 1) g bd r u) (omega arith) (omega arith) (omega arith) (omega arith)
-        (omega arith) (omega (arith, b .room, h .at .table .few)) (here-left (rowsSs bd) (rowsMs ms) (here-tail here)) (d .1 .1 .1 .0) h (λ y. absurd (omega (arith, ap homeNumber y)))))) in
+        (omega arith) (omega (arith, b .room, h .at .row .table .few)) (here-left (rowsSs bd) (rowsMs ms) (here-tail here)) (d .1 .1 .1 .0) h (λ y. absurd (omega (arith, ap homeNumber y)))))) in
         looped-to e (append-assoc (selfFault n g c) body (rawMs ms (suc n + lenSs bd) c st))
         (looped-then
-        (line-stmt text k s stop r w (omega arith) (r + suc (lenSs bd)) (row-after (h .at .table) here) (omega (arith, row-kind (h .at .table) here, d .0)))
+        (line-stmt text k s stop r w (omega arith) (r + suc (lenSs bd)) (row-after (h .at .row .table) here) (omega (arith, row-kind (h .at .row .table) here, d .0)))
         first
         (methods ms k (r + suc (lenSs bd)) (suc n + lenSs bd) stop c b (omega arith) (omega arith) (omega arith) m i
         (subst (λ j. Here rows j (rowsMs ms)) a (here-past (sized-ss bd) (rowsMs ms) (here-tail here))) (d .1 .1 .1 .1) (ready-on b h first)))

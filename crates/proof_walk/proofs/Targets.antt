@@ -29,7 +29,7 @@ use Rattle.proof_walk.specs.Notes.{Note, notesT, notesTs, assignedBy}
 use Rattle.proof_walk.proofs.State.{At}
 use Rattle.proof_walk.proofs.PartRows.{here-tail, here-left, here-past, row-kind, row-after, row-number, row-small}
 use Rattle.proof_walk.proofs.Assigned.{Assigns, range-ts, still, end-t, targets-first, targets-rest, tuple-parts, none-still}
-use Rattle.proof_walk.proofs.Exprs.{Places, Flat, exprs-walked}
+use Rattle.proof_walk.proofs.Exprs.{Flat, exprs-walked}
 use Rattle.proof_walk.proofs.Done.{Right, Done, done-then, done-skip, done-fault, done-bind, done-walked, done-to, Looped, looped-one, looped-then, looped-to}
 
 -- ---- one row of the loop
@@ -102,57 +102,57 @@ turn text k s stop {r} {w = w} l t p q =
 module _ {text : Bytes} {rows : List Row} {num : Bytes → ℕ} {ns : List Note} {s : ScopeStack} {v : Env} (flat : Flat s v) (room : s .end ≤ length rows) (k stop : ℕ) (end : stop ≤ s .end) where
   -- a line of another kind
   refused : (l : Line) (below : ℕ) (part : List Row) (r n : ℕ) {st : State} {seen : List Fault} {w : List ℕ} → n ≡ suc (suc r) → r + suc below ≤ stop → Here rows r (row l below ∷ part)
-      → Refused (l .word) → At text rows num ns s [] v st seen w r → Places r seen → Right ns v (st .assigned) (r + suc below)
+      → Refused (l .word) → At text rows num ns s [] v st seen w r → Right ns v (st .assigned) (r + suc below)
       → Looped text rows num ns s v (turns text k s stop) st st seen (refusedAt n l ∷ []) w r (r + suc below)
-  refused l below part r n {st} {seen} {w} q m here other h p right =
+  refused l below part r n {st} {seen} {w} q m here other h right =
       looped-one
-      (turn text k s stop (omega arith) (turn-refused (walkExpr k text false s) s r w (subst Refused (sym (row-kind (h .table) here)) other)) refl (row-after (h .table) here))
-      (done-fault h p (refusedAt n l) refl q (omega arith) (omega arith) (omega arith) (omega arith) right)
+      (turn text k s stop (omega arith) (turn-refused (walkExpr k text false s) s r w (subst Refused (sym (row-kind (h .row .table) here)) other)) refl (row-after (h .row .table) here))
+      (done-fault h (refusedAt n l) refl q (omega arith) (omega arith) (omega arith) (omega arith) right)
 
   mutual
     -- j is a row after the target
     pub target : (t : Expr) (r n j : ℕ) {st : State} {seen : List Fault} {w : List ℕ} → n ≡ suc (suc r) → lenE t ≤ k → r + lenE t ≤ stop → r + lenE t ≤ j → j < never
-        → Here rows r (rowsE t) → WordedE t → At text rows num ns s [] v st seen w r → Places r seen → (v .home ≡ inDef → Assigns ns (st .assigned) (notesT t r) r j)
+        → Here rows r (rowsE t) → WordedE t → At text rows num ns s [] v st seen w r → (v .home ≡ inDef → Assigns ns (st .assigned) (notesT t r) r j)
         → Looped text rows num ns s v (turns text k s stop) st (afterT t st) seen (rawT t n [] v st) w r (r + lenE t)
-    target (var l) r n j {st} {seen} {w} q f m b c here d h p by =
-        let few = h .table .few in
+    target (var l) r n j {st} {seen} {w} q f m b c here d h by =
+        let few = h .row .table .few in
         looped-one
-        (turn text k s stop (omega arith) (turn-var (walkExpr k text false s) s r w (row-kind (h .table) here ∙ d .0)) (ap (defined s w) (row-number (h .table) here (d .1))) (row-after (h .table) here))
-        (done-bind h p (l .name) (l .name ∷ st .assigned) (flat .inner) (omega arith) (row-small (h .table) here (d .1)) (omega arith) (omega arith)
+        (turn text k s stop (omega arith) (turn-var (walkExpr k text false s) s r w (row-kind (h .row .table) here ∙ d .0)) (ap (defined s w) (row-number (h .row .table) here (d .1))) (row-after (h .row .table) here))
+        (done-bind h (l .name) (l .name ∷ st .assigned) (flat .inner) (omega arith) (row-small (h .row .table) here (d .1)) (omega arith) (omega arith)
         (λ i. end-t c (var l) st (by i) (r + 1) (omega arith) (omega arith)))
-    target (node l es) r n j q f m b c here d h p by =
-        refused l (lenEs es) (rowsEs es) r n q m here (refused-node (d .0)) h p (λ i x. none-still (by i) x (r + suc (lenEs es)) (omega arith) b)
-    target (access l es) r n j {st} {seen} {w} q f m b c here d h p by =
+    target (node l es) r n j q f m b c here d h by =
+        refused l (lenEs es) (rowsEs es) r n q m here (refused-node (d .0)) h (λ i x. none-still (by i) x (r + suc (lenEs es)) (omega arith) b)
+    target (access l es) r n j {st} {seen} {w} q f m b c here d h by =
         let e : suc r + lenEs es ≡ r + suc (lenEs es) = omega arith in
         let head : Done text rows num ns s v st st seen [] w w r (suc r) =
-        done-skip h p (st .assigned) (omega arith) (omega arith) (λ i x. none-still (by i) x (suc r) (omega arith) (omega arith)) in
+        done-skip h (st .assigned) (omega arith) (omega arith) (λ i x. none-still (by i) x (suc r) (omega arith) (omega arith)) in
         looped-one
-        (turn text k s stop (omega arith) (turn-access (walkExpr k text false s) s r w (d .0) (row-kind (h .table) here))
-        (ap₂ (λ i j. rowsTo afterRow (walkExpr k text false s) i j w) (add-one r) (row-after (h .table) here ∙ sym e)) (row-after (h .table) here))
+        (turn text k s stop (omega arith) (turn-access (walkExpr k text false s) s r w (d .0) (row-kind (h .row .table) here))
+        (ap₂ (λ i j. rowsTo afterRow (walkExpr k text false s) i j w) (add-one r) (row-after (h .row .table) here ∙ sym e)) (row-after (h .row .table) here))
         (done-to e (ap (λ i. rawEs es (suc i) [] v st) (sym q)) (done-then head
         (done-walked (st .assigned) refl (λ i x. none-still (by i) x (suc r + lenEs es) (omega arith) (omega arith))
-        (exprs-walked k (suc r) es (here-tail here) (d .1) (omega arith) (omega arith) room flat (head .after) (head .places)
+        (exprs-walked k (suc r) es (here-tail here) (d .1) (omega arith) (omega arith) room flat (head .after)
         (λ i x z u y. none-still (by i) x z (omega arith) (omega arith))))))
-    target (tuple l es) r n j {st} {seen} {w} q f m b c here d h p by =
+    target (tuple l es) r n j {st} {seen} {w} q f m b c here d h by =
         let head : Done text rows num ns s v st st seen [] w w r (suc r) =
-        done-skip h p (st .assigned) (omega arith) (omega arith) (λ i x. now-ts es c (tuple-parts c l es (by i)) (omega arith) x) in
+        done-skip h (st .assigned) (omega arith) (omega arith) (λ i x. now-ts es c (tuple-parts c l es (by i)) (omega arith) x) in
         looped-to (omega arith) refl (looped-then
-        (turn text k s stop (omega arith) (turn-tuple (walkExpr k text false s) s r w (row-kind (h .table) here ∙ d .0)) refl (add-one r)) head
-        (targets es (suc r) (suc n) j (omega arith) (omega arith) (omega arith) (omega arith) c (here-tail here) (d .1) (head .after) (head .places) (λ i. tuple-parts c l es (by i))))
-    target (call l g es) r n j q f m b c here d h p by =
-        refused l (lenE g + lenEs es) (rowsE g ++ rowsEs es) r n q m here (rw (d .0) refl) h p (λ i x. none-still (by i) x (r + suc (lenE g + lenEs es)) (omega arith) b)
-    target (lambda l e) r n j q f m b c here d h p by =
-        refused l (lenE e) (rowsE e) r n q m here (rw (d .0) refl) h p (λ i x. none-still (by i) x (r + suc (lenE e)) (omega arith) b)
+        (turn text k s stop (omega arith) (turn-tuple (walkExpr k text false s) s r w (row-kind (h .row .table) here ∙ d .0)) refl (add-one r)) head
+        (targets es (suc r) (suc n) j (omega arith) (omega arith) (omega arith) (omega arith) c (here-tail here) (d .1) (head .after) (λ i. tuple-parts c l es (by i))))
+    target (call l g es) r n j q f m b c here d h by =
+        refused l (lenE g + lenEs es) (rowsE g ++ rowsEs es) r n q m here (rw (d .0) refl) h (λ i x. none-still (by i) x (r + suc (lenE g + lenEs es)) (omega arith) b)
+    target (lambda l e) r n j q f m b c here d h by =
+        refused l (lenE e) (rowsE e) r n q m here (rw (d .0) refl) h (λ i x. none-still (by i) x (r + suc (lenE e)) (omega arith) b)
 
     targets : (es : Exprs) (r n j : ℕ) {st : State} {seen : List Fault} {w : List ℕ} → n ≡ suc (suc r) → lenEs es ≤ k → r + lenEs es ≤ stop → r + lenEs es ≤ j → j < never
-        → Here rows r (rowsEs es) → WordedEs es → At text rows num ns s [] v st seen w r → Places r seen → (v .home ≡ inDef → Assigns ns (st .assigned) (notesTs es r) r j)
+        → Here rows r (rowsEs es) → WordedEs es → At text rows num ns s [] v st seen w r → (v .home ≡ inDef → Assigns ns (st .assigned) (notesTs es r) r j)
         → Looped text rows num ns s v (turns text k s stop) st (afterTs es st) seen (rawTs es n [] v st) w r (r + lenEs es)
-    targets enil r n j {st} {seen} {w} q f m b c here d h p by =
+    targets enil r n j {st} {seen} {w} q f m b c here d h by =
         let e : r ≡ r + 0 = omega arith in
-        looped-one (ap (λ i. turns text k s stop i w) e) (done-skip h p (st .assigned) (omega arith) (omega arith) (λ i x. none-still (by i) x (r + 0) (omega arith) b))
-    targets (econs e es) r n j {st} {seen} {w} q f m b c here d h p by =
+        looped-one (ap (λ i. turns text k s stop i w) e) (done-skip h (st .assigned) (omega arith) (omega arith) (λ i x. none-still (by i) x (r + 0) (omega arith) b))
+    targets (econs e es) r n j {st} {seen} {w} q f m b c here d h by =
         let first : Looped text rows num ns s v (turns text k s stop) st (afterT e st) seen (rawT e n [] v st) w r (r + lenE e) =
-        target e r n (r + lenE e) q (omega arith) (omega arith) (omega arith) (omega arith) (here-left (rowsE e) (rowsEs es) here) (d .0) h p (λ i. targets-first c e es b (by i)) in
+        target e r n (r + lenE e) q (omega arith) (omega arith) (omega arith) (omega arith) (here-left (rowsE e) (rowsEs es) here) (d .0) h (λ i. targets-first c e es b (by i)) in
         looped-to (omega arith) refl (looped-then (first .goes) (first .done)
         (targets es (r + lenE e) (n + lenE e) j (omega arith) (omega arith) (omega arith) (omega arith) c (here-past (sized-e e) (rowsEs es) here) (d .1)
-        (first .done .after) (first .done .places) (λ i. targets-rest c e es st b (by i))))
+        (first .done .after) (λ i. targets-rest c e es st b (by i))))

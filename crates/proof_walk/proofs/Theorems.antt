@@ -42,4 +42,4 @@ module _ (text : Bytes) (t : Tree) (num : Bytes → ℕ) (w : List ℕ) (table :
       ∙ started-clean text t num w table words worded named small closed i (omega (arith, rows-length t))
 
   pub walked-words : Words after
-  walked-words = statements text t num w table words worded named small closed .after .words
+  walked-words = statements text t num w table words worded named small closed .after .row .words
