@@ -18,7 +18,8 @@ use Rattle.work_rows.proofs.Lengths.{Sized, sized-e, sized-s, sized-ss}
 use Rattle.read_row.specs.Worded.{WordedE, WordedEs, WordedS, WordedSs, WordedMs}
 use Rattle.proof_walk.specs.Table.{Here}
 use Rattle.proof_walk.proofs.PartRows.{head-row, here-tail, here-left, here-past}
-use Rattle.proof_order.proofs.Reach.{plain, not-plain, plain-node, plain-access, plain-simple, plain-block, Fits, fits-e, fits-s, fits-ss, wordIn, endIn, Free, free-in, free-past}
+use Rattle.proof_walk.proofs.WordTests.{node-test, access-test, simple-test, block-test}
+use Rattle.proof_order.proofs.Reach.{plain, not-plain, Fits, fits-e, fits-s, fits-ss, wordIn, endIn, Free, free-in, free-past}
 use Rattle.proof_order.proofs.Right.{Right, right-unless, Stands, Used, Under, clear, under, right-refused, right-selfless, right-judged}
 
 -- ---- the first row of a part
@@ -95,9 +96,9 @@ module _ (rows : List Row) (few : length rows ≤ 4_096) where
     right-e (var l) i n u ls v s q w h d a = right-judged rows few (record { number = n; line = l }) i (stands h q) (v .home) ls u d a (mem (l .name .bytes) (v .params)) (mem (l .name .bytes) (v .locals))
         (mem (l .name .bytes) (s .assigned)) (mem (l .name .bytes) (s .view))
     right-e (node l es) i n u ls v s q w h d a =
-        right-es es (suc i) (suc n) ls v s (omega arith) (w .1) (here-tail h) (under-row h (not-plain 28 refl (plain-node (w .0))) a)
+        right-es es (suc i) (suc n) ls v s (omega arith) (w .1) (here-tail h) (under-row h (not-plain 28 refl (node-test plain refl (w .0))) a)
     right-e (access l es) i n u ls v s q w h d a =
-        right-es es (suc i) (suc n) ls v s (omega arith) (w .1) (here-tail h) (under-row h (not-plain 28 refl (plain-access (w .0))) a)
+        right-es es (suc i) (suc n) ls v s (omega arith) (w .1) (here-tail h) (under-row h (not-plain 28 refl (access-test plain refl (w .0))) a)
     right-e (tuple l es) i n u ls v s q w h d a =
         right-es es (suc i) (suc n) ls v s (omega arith) (w .1) (here-tail h) (under-row h (λ e. omega (arith, w .0)) a)
     right-e (call l f es) i n u ls v s q w h d a =
@@ -128,7 +129,7 @@ module _ (rows : List Row) (few : length rows ≤ 4_096) where
     right-t (var l) i n v s q w h f = none
     right-t (node l es) i n v s q w h f = refused q h
     right-t (access l es) i n v s q w h f =
-        right-es es (suc i) (suc n) [] v s (omega arith) (w .1) (here-tail h) (clear (free-row h (not-plain 28 refl (plain-access (w .0))) f))
+        right-es es (suc i) (suc n) [] v s (omega arith) (w .1) (here-tail h) (clear (free-row h (not-plain 28 refl (access-test plain refl (w .0))) f))
     right-t (tuple l es) i n v s q w h f = right-ts es (suc i) (suc n) v s (omega arith) (w .1) (here-tail h) (free-row h (λ e. omega (arith, w .0)) f)
     right-t (call l g es) i n v s q w h f = refused q h
     right-t (lambda l e) i n v s q w h f = refused q h
@@ -162,11 +163,11 @@ module _ (rows : List Row) (few : length rows ≤ 4_096) where
     right-s : (t : Stmt) (i n : ℕ) (v : Env) (s : State) → n ≡ suc (suc i) → WordedS t → Here rows i (rowsS t) → Clear rows (v .home) i
         → All (Right rows) (rawS t n [] v s)
     right-s (simple l es) i n v s q w h c =
-        right-es es (suc i) (suc n) [] v s (omega arith) (w .1) (here-tail h) (clear (clear-row (v .home) h (plain-simple (w .0)) c .lambda))
+        right-es es (suc i) (suc n) [] v s (omega arith) (w .1) (here-tail h) (clear (clear-row (v .home) h (simple-test plain refl (w .0)) c .lambda))
     right-s (assign l e t) i n v s q w h c =
         then-e e (rowsE t) v s q (ap plain (w .0)) (w .1 .0) h c (λ h c. right-t t (suc i + lenE e) (suc n + lenE e) v s (omega arith) (w .1 .1) h (c .lambda))
     right-s (block l e b) i n v s q w h c =
-        then-e e (rowsSs b) v s q (plain-block (w .0)) (w .1 .0) h c (λ h c. right-ss b (suc i + lenE e) (suc n + lenE e) v s (omega arith) (w .1 .1) h c)
+        then-e e (rowsSs b) v s q (block-test plain refl (w .0)) (w .1 .0) h c (λ h c. right-ss b (suc i + lenE e) (suc n + lenE e) v s (omega arith) (w .1 .1) h c)
     right-s (choice l e b k d) i n v s q w h c =
         then-e e (rowsSs b ++ (rowsSs k ++ rowsSs d)) v s q (ap plain (w .0)) (w .1 .0) h c
         (λ h c. then-ss (v .home) b (rowsSs k ++ rowsSs d) (w .1 .1 .0) h c (λ l. right-ss b (suc i + lenE e) (suc n + lenE e) v s (omega arith) (w .1 .1 .0) l c)

@@ -13,9 +13,10 @@ use Rattle.spec_text.specs.Tree.{Line, Expr, Exprs, Attrs, Stmt, Stmts, Methods
 use Rattle.work_rows.specs.Rows.{Row, row, globalRow, rowsE, rowsEs, rowsAs, rowsS, rowsSs, rowsMs, rowsT}
 use Rattle.read_tree.specs.Laid.{noRow}
 use Rattle.work_rows.proofs.Lengths.{Sized, both, sized-e, sized-es, sized-as, sized-ss, sized-ms}
-use Rattle.read_row.specs.Worded.{NodeWord, lit, un, bin, list, set, treeset, dict, AccessWord, index, get, SimpleWord, break, continue, pass, return, expr, BlockWord, elif, while, WordedE, WordedEs, WordedAs, WordedS, WordedSs, WordedMs}
+use Rattle.read_row.specs.Worded.{WordedE, WordedEs, WordedAs, WordedS, WordedSs, WordedMs}
 use Rattle.proof_walk.specs.Table.{Here}
 use Rattle.proof_walk.proofs.PartRows.{head-row, here-tail}
+use Rattle.proof_walk.proofs.WordTests.{node-test, access-test, simple-test, block-test}
 
 -- ---- words: 21 call, 28 lambda, 13 class, and the plain ones
 abbrev pub plain : ℕ → Bool
@@ -23,30 +24,6 @@ plain w = not (eqb w 21 || (eqb w 28 || eqb w 13))
 
 pub not-plain : (k : ℕ) {w : ℕ} → plain k ≡ false → plain w ≡ true → w ≡ k → ⊥
 not-plain k f p e = false≢true (sym f ∙ ap plain (sym e) ∙ p)
-
-pub plain-node : {w : ℕ} → NodeWord w → plain w ≡ true
-plain-node lit = refl
-plain-node un = refl
-plain-node bin = refl
-plain-node list = refl
-plain-node set = refl
-plain-node treeset = refl
-plain-node dict = refl
-
-pub plain-access : {w : ℕ} → AccessWord w → plain w ≡ true
-plain-access index = refl
-plain-access get = refl
-
-pub plain-simple : {w : ℕ} → SimpleWord w → plain w ≡ true
-plain-simple break = refl
-plain-simple continue = refl
-plain-simple pass = refl
-plain-simple return = refl
-plain-simple expr = refl
-
-pub plain-block : {w : ℕ} → BlockWord w → plain w ≡ true
-plain-block elif = refl
-plain-block while = refl
 
 -- ---- the rows of a part
 abbrev pub Fits : List Row → Type 0
@@ -64,8 +41,8 @@ fits-row l z p f = (omega (arith, z .count), λ e. absurd (not-plain 21 refl p e
 mutual
   pub fits-e : (e : Expr) → WordedE e → Fits (rowsE e)
   fits-e (var l) w = (omega arith, λ e. omega (arith, w .0), tt)
-  fits-e (node l es) w = fits-row l (sized-es es) (plain-node (w .0)) (fits-es es (w .1))
-  fits-e (access l es) w = fits-row l (sized-es es) (plain-access (w .0)) (fits-es es (w .1))
+  fits-e (node l es) w = fits-row l (sized-es es) (node-test plain refl (w .0)) (fits-es es (w .1))
+  fits-e (access l es) w = fits-row l (sized-es es) (access-test plain refl (w .0)) (fits-es es (w .1))
   fits-e (tuple l es) w = fits-row l (sized-es es) (ap plain (w .0)) (fits-es es (w .1))
   fits-e (call l f es) w =
       (omega (arith, both (sized-e f) (sized-es es) .count), λ e. omega arith, fits-append (rowsE f) (rowsEs es) (fits-e f (w .1 .0)) (fits-es es (w .1 .1)))
@@ -82,11 +59,11 @@ fits-as (acons l e ats) w =
 
 mutual
   pub fits-s : (s : Stmt) → WordedS s → Fits (rowsS s)
-  fits-s (simple l es) w = fits-row l (sized-es es) (plain-simple (w .0)) (fits-es es (w .1))
+  fits-s (simple l es) w = fits-row l (sized-es es) (simple-test plain refl (w .0)) (fits-es es (w .1))
   fits-s (assign l e t) w =
       fits-row l (both (sized-e e) (sized-e t)) (ap plain (w .0)) (fits-append (rowsE e) (rowsE t) (fits-e e (w .1 .0)) (fits-e t (w .1 .1)))
   fits-s (block l c b) w =
-      fits-row l (both (sized-e c) (sized-ss b)) (plain-block (w .0)) (fits-append (rowsE c) (rowsSs b) (fits-e c (w .1 .0)) (fits-ss b (w .1 .1)))
+      fits-row l (both (sized-e c) (sized-ss b)) (block-test plain refl (w .0)) (fits-append (rowsE c) (rowsSs b) (fits-e c (w .1 .0)) (fits-ss b (w .1 .1)))
   fits-s (choice l c b k e) w =
       fits-row l (both (sized-e c) (both (sized-ss b) (both (sized-ss k) (sized-ss e)))) (ap plain (w .0))
       (fits-append (rowsE c) (rowsSs b ++ (rowsSs k ++ rowsSs e)) (fits-e c (w .1 .0))

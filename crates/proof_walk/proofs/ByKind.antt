@@ -7,7 +7,7 @@ use mathlib.Core.Path.{_≡_, refl, ap, ap₂, _∙_}
 use mathlib.Core.Bool.{Bool, true, false, cond, not, _&&_, false≢true}
 use mathlib.Core.List.{List}
 use lib.Dec.{eqb, ltb}
-use borrow.Author.Tests.{lt-leb, lt-ltb}
+use borrow.Author.Tests.{ltb-true, lt-leb, lt-ltb}
 use Rattle.spec_text.specs.Bytes.{Bytes, Part}
 use Rattle.spec_text.specs.Tree.{Stmt, simple, assign, block, choice, for, def, class, lenS}
 use Rattle.spec_faults.specs.Faults.{lacksSelf}
@@ -19,28 +19,18 @@ use Rattle.work_rows.proofs.Loops.{rows-more}
 use Rattle.walk_scopes.specs.ScopesModel.{aDef, aMethod, module′, pushed, defined}
 use Rattle.walk_scopes.specs.declared.ScopeStack.{ScopeStack}
 use Rattle.read_row.specs.RowModel.{paramsOf}
-use Rattle.read_row.specs.Worded.{SimpleWord, break, continue, pass, return, expr, BlockWord, elif, while, WordedS}
+use Rattle.read_row.specs.Worded.{WordedS}
 use Rattle.walk_blocks.specs.BlocksModel.{opened, reopened}
 use Rattle.walk_tree.specs.WalkModel.{nextTarget, targetAt, stmtAt, blockAt, methodAt, walkExpr, walkStmt, walkLine}
 use Rattle.proof_walk.specs.Table.{Table, Here}
 use Rattle.proof_walk.proofs.PartRows.{row-kind}
+use Rattle.proof_walk.proofs.WordTests.{simple-test, block-test}
 
 -- ---- words of statements are before those of expressions
-simple-word : {k : ℕ} → SimpleWord k → k < 16
-simple-word break = omega arith
-simple-word continue = omega arith
-simple-word pass = omega arith
-simple-word return = omega arith
-simple-word expr = omega arith
-
-block-word : {k : ℕ} → BlockWord k → k < 16
-block-word elif = omega arith
-block-word while = omega arith
-
 pub stmt-kind : {text : Bytes} {rows : List Row} {num : Bytes → ℕ} {w : List ℕ} {r : ℕ} → Table text rows num w → (s : Stmt) → Here rows r (rowsS s) → WordedS s → kindAt w r < 16
-stmt-kind t (simple l es) h d = omega (arith, row-kind t h, simple-word (d .0))
+stmt-kind t (simple l es) h d = omega (arith, row-kind t h, ltb-true (l .word) 16 (simple-test (λ k. ltb k 16) refl (d .0)))
 stmt-kind t (assign l e g) h d = omega (arith, row-kind t h, d .0)
-stmt-kind t (block l c b) h d = omega (arith, row-kind t h, block-word (d .0))
+stmt-kind t (block l c b) h d = omega (arith, row-kind t h, ltb-true (l .word) 16 (block-test (λ k. ltb k 16) refl (d .0)))
 stmt-kind t (choice l c b k e) h d = omega (arith, row-kind t h, d .0)
 stmt-kind t (for l e b) h d = omega (arith, row-kind t h, d .0)
 stmt-kind t (def l b) h d = omega (arith, row-kind t h, d .0)
@@ -60,17 +50,6 @@ some-stmt (class l ms ats) = omega arith
 -- the kinds of lines that are only gone through
 abbrev pub plain : ℕ → Bool
 plain k = not (eqb k 5) && (not (eqb k 6) && (not (eqb k 10) && (not (eqb k 13) && (not (eqb k 14) && not (eqb k 15)))))
-
-pub plain-simple : {k : ℕ} → SimpleWord k → plain k ≡ true
-plain-simple break = refl
-plain-simple continue = refl
-plain-simple pass = refl
-plain-simple return = refl
-plain-simple expr = refl
-
-pub plain-block : {k : ℕ} → BlockWord k → plain k ≡ true
-plain-block elif = refl
-plain-block while = refl
 
 -- lines up to the row stop
 abbrev pub kids : Bytes → ℕ → ScopeStack → ℕ → ℕ → List ℕ → List ℕ

@@ -5,13 +5,14 @@ use Prim.Native.Nat.{ℕ, zero, suc, _+_, _/_, _≤_, _<_}
 use native.Mathlib.Omega.{arith}
 use native.Mathlib.Numerals.{add-one}
 use mathlib.Core.Path.{_≡_, refl, sym, ap, ap₂, _∙_, subst}
-use mathlib.Core.Bool.{Bool, true, false, cond, false≢true}
+use mathlib.Core.Bool.{Bool, true, false, cond, not, _&&_, false≢true}
 use mathlib.Core.List.{List, [], _∷_, _++_}
 use lib.Dec.{eqb, ltb}
 use lib.ListN.{length}
-use borrow.Author.Tests.{lt-leb}
+use borrow.Author.Tests.{lt-leb, not-true}
 use Rattle.spec_text.specs.Bytes.{Bytes, Part, mem}
 use Rattle.spec_text.specs.Tree.{Line, Expr, Exprs, var, node, access, tuple, call, lambda, enil, econs, lenE, lenEs}
+use Rattle.spec_text.proofs.Lists.{and-split}
 use Rattle.spec_faults.specs.Position.{Placed, inDef, Use, value, callee}
 use Rattle.spec_faults.specs.Faults.{Fault}
 use Rattle.spec_faults.proofs.ListingWalk.{State, Env}
@@ -26,7 +27,7 @@ use Rattle.work_marks.proofs.Writes.{Kept}
 use Rattle.work_rows.proofs.Loops.{rows-end, rows-more}
 use Rattle.walk_scopes.specs.ScopesModel.{pushedLambda}
 use Rattle.walk_scopes.specs.declared.ScopeStack.{ScopeStack}
-use Rattle.read_row.specs.Worded.{NodeWord, lit, un, bin, list, set, treeset, dict, AccessWord, index, get, WordedE, WordedEs}
+use Rattle.read_row.specs.Worded.{WordedE, WordedEs}
 use Rattle.walk_judge.specs.JudgeModel.{readOf}
 use Rattle.walk_blocks.specs.BlocksModel.{opened}
 use Rattle.walk_tree.specs.WalkModel.{exprAt, walkExpr, walkStmt, walkLine, walkExprs}
@@ -35,6 +36,7 @@ use Rattle.proof_walk.specs.Notes.{Note, assignedBy}
 use Rattle.proof_walk.specs.Slots.{slotsFrom, keys}
 use Rattle.proof_walk.proofs.State.{At, Raised}
 use Rattle.proof_walk.proofs.PartRows.{head-row, here-tail, here-left, here-past, row-kind, row-after, row-number, row-params, row-small, row-few, after-E}
+use Rattle.proof_walk.proofs.WordTests.{node-test, access-test}
 use Rattle.proof_walk.proofs.InExprs.{none-blamed, Stands, Step, step-both, step-below, step-quiet, stands-on, onward}
 use Rattle.proof_walk.proofs.OneRead.{Under, flat, under, Around, CalledAs, asValue, asCallee, readAt, read-step}
 use Rattle.proof_walk.proofs.Lambdas.{Bound, bound-opened, around-in, stands-in, step-out}
@@ -106,26 +108,20 @@ record Plain (n : ℕ) : Type 0 where
   pub lambda : eqb n 28 ≡ false
   pub expr : ltb n 16 ≡ false
 
-plain-node : {n : ℕ} → NodeWord n → Plain n
-plain-node lit = record { var = refl; call = refl; lambda = refl; expr = refl }
-plain-node un = record { var = refl; call = refl; lambda = refl; expr = refl }
-plain-node bin = record { var = refl; call = refl; lambda = refl; expr = refl }
-plain-node list = record { var = refl; call = refl; lambda = refl; expr = refl }
-plain-node set = record { var = refl; call = refl; lambda = refl; expr = refl }
-plain-node treeset = record { var = refl; call = refl; lambda = refl; expr = refl }
-plain-node dict = record { var = refl; call = refl; lambda = refl; expr = refl }
+abbrev other : ℕ → Bool
+other n = not (eqb n 17) && (not (eqb n 21) && (not (eqb n 28) && not (ltb n 16)))
 
-plain-access : {n : ℕ} → AccessWord n → Plain n
-plain-access index = record { var = refl; call = refl; lambda = refl; expr = refl }
-plain-access get = record { var = refl; call = refl; lambda = refl; expr = refl }
-
-plain-tuple : {n : ℕ} → n ≡ 24 → Plain n
-plain-tuple {n} e = subst Plain (sym e) (record { var = refl; call = refl; lambda = refl; expr = refl })
+plain : (n : ℕ) → other n ≡ true → Plain n
+plain n e =
+    let a = and-split (not (eqb n 17)) _ e in
+    let b = and-split (not (eqb n 21)) _ (a .1) in
+    let c = and-split (not (eqb n 28)) _ (b .1) in
+    record { var = not-true _ (a .0); call = not-true _ (b .0); lambda = not-true _ (c .0); expr = not-true _ (c .1) }
 
 pub word-E : {text : Bytes} {rows : List Row} {num : Bytes → ℕ} {w : List ℕ} {i : ℕ} → Table text rows num w → (e : Expr) → Here rows i (rowsE e) → WordedE e → ltb (kindAt w i) 16 ≡ false
 word-E t (var l) h ok = ap (λ n. ltb n 16) (row-kind t h ∙ ok .0)
-word-E t (node l es) h ok = ap (λ n. ltb n 16) (row-kind t h) ∙ plain-node (ok .0) .expr
-word-E t (access l es) h ok = ap (λ n. ltb n 16) (row-kind t h) ∙ plain-access (ok .0) .expr
+word-E t (node l es) h ok = ap (λ n. ltb n 16) (row-kind t h) ∙ plain (l .word) (node-test other refl (ok .0)) .expr
+word-E t (access l es) h ok = ap (λ n. ltb n 16) (row-kind t h) ∙ plain (l .word) (access-test other refl (ok .0)) .expr
 word-E t (tuple l es) h ok = ap (λ n. ltb n 16) (row-kind t h ∙ ok .0)
 word-E t (call l f es) h ok = ap (λ n. ltb n 16) (row-kind t h ∙ ok .0)
 word-E t (lambda l e) h ok = ap (λ n. ltb n 16) (row-kind t h ∙ ok .0)
@@ -161,15 +157,15 @@ module _ {text : Bytes} {rows : List Row} {num : Bytes → ℕ} {ns : List Note}
         (read-step p c (omega arith) l (row-small t h (ok .1)) a)
     expr-step (node l es) zero r a h ok few p c = absurd (omega arith)
     expr-step (node l es) (suc k) r {called} a h ok few p c =
-        below-step k r called (lenEs es) (plain-node (ok .0)) h p
+        below-step k r called (lenEs es) (plain (l .word) (node-test other refl (ok .0))) h p
         (exprs-step es k (suc r) (here-tail h) (ok .1) (omega arith) (stands-on p (omega arith)) (around-part (omega arith) (omega arith) c))
     expr-step (access l es) zero r a h ok few p c = absurd (omega arith)
     expr-step (access l es) (suc k) r {called} a h ok few p c =
-        below-step k r called (lenEs es) (plain-access (ok .0)) h p
+        below-step k r called (lenEs es) (plain (l .word) (access-test other refl (ok .0))) h p
         (exprs-step es k (suc r) (here-tail h) (ok .1) (omega arith) (stands-on p (omega arith)) (around-part (omega arith) (omega arith) c))
     expr-step (tuple l es) zero r a h ok few p c = absurd (omega arith)
     expr-step (tuple l es) (suc k) r {called} a h ok few p c =
-        below-step k r called (lenEs es) (plain-tuple (ok .0)) h p
+        below-step k r called (lenEs es) (plain (l .word) (ap other (ok .0))) h p
         (exprs-step es k (suc r) (here-tail h) (ok .1) (omega arith) (stands-on p (omega arith)) (around-part (omega arith) (omega arith) c))
     expr-step (call l f es) zero r a h ok few p c = absurd (omega arith)
     expr-step (call l f es) (suc k) r {called} {u} {s} {ls} {v} {st} {seen} {w} a h ok few p c =

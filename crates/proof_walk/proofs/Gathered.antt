@@ -8,6 +8,7 @@ use mathlib.Core.Bool.{Bool, true, false, cond, not, _&&_, _||_, false≢true}
 use mathlib.Core.List.{List, [], _∷_, _++_}
 use mathlib.Core.Logic.{_⊎_, inl, inr}
 use lib.Dec.{eqb, leb}
+use borrow.Author.Tests.{leb-true}
 use Rattle.spec_text.specs.Bytes.{Bytes}
 use Rattle.spec_text.specs.Tree.{Line, Expr, Exprs, Stmt, Stmts, var, node, access, tuple, call, lambda, enil, econs, simple, assign, block, choice, for, def, class, snil, scons, lenE, lenEs, lenS, lenSs}
 use Rattle.work_rows.specs.Layout.{kindAt, numberAt, afterRow}
@@ -17,43 +18,20 @@ use Rattle.work_rows.proofs.Loops.{rows-end}
 use Rattle.walk_own_names.specs.OwnNamesModel.{noted, rowNoted, nextNoted, allNoted}
 use Rattle.work_marks.specs.MarksModel.{never}
 use Rattle.walk_own_names.proofs.Ways.{row-def, row-class, row-for, row-var, row-none, next-past, next-child, next-after, all-more}
-use Rattle.read_row.specs.Worded.{Some, NodeWord, lit, un, bin, list, set, treeset, dict, AccessWord, index, get, SimpleWord, break, continue, pass, return, expr, BlockWord, elif, while, WordedE, WordedEs, WordedS, WordedSs}
+use Rattle.read_row.specs.Worded.{Some, WordedE, WordedEs, WordedS, WordedSs}
 use Rattle.proof_walk.specs.Table.{Table, Here}
 use Rattle.proof_walk.specs.Notes.{Note, note, notesT, notesTs, notesS, notesSs}
 use Rattle.proof_walk.proofs.PartRows.{here-tail, here-left, here-past, row-kind, row-after, row-number, after-E, table-kept}
+use Rattle.proof_walk.proofs.WordTests.{node-test, access-test, simple-test, block-test}
 use Rattle.proof_walk.proofs.Noted.{noteAll, noteAll-two, restamped-all}
 
 -- ---- kinds
 -- a row that binds nothing, and nothing below it is looked at
-abbrev Quiet : ℕ → Type 0
-Quiet k = (not (eqb k 5 || eqb k 13) && (not (eqb k 10) && (not (eqb k 17) && (not (leb 6 k && leb k 10) && not (eqb k 24))))) ≡ true
-
-quiet-node : {k : ℕ} → NodeWord k → Quiet k
-quiet-node lit = refl
-quiet-node un = refl
-quiet-node bin = refl
-quiet-node list = refl
-quiet-node set = refl
-quiet-node treeset = refl
-quiet-node dict = refl
-
-quiet-access : {k : ℕ} → AccessWord k → Quiet k
-quiet-access index = refl
-quiet-access get = refl
-
-quiet-simple : {k : ℕ} → SimpleWord k → Quiet k
-quiet-simple break = refl
-quiet-simple continue = refl
-quiet-simple pass = refl
-quiet-simple return = refl
-quiet-simple expr = refl
-
-block-word : {k : ℕ} → BlockWord k → (6 ≤ k) × (k ≤ 9)
-block-word elif = (omega arith, omega arith)
-block-word while = (omega arith, omega arith)
+abbrev quiet : ℕ → Bool
+quiet k = not (eqb k 5 || eqb k 13) && (not (eqb k 10) && (not (eqb k 17) && (not (leb 6 k && leb k 10) && not (eqb k 24))))
 
 -- what holds where no test of the kind does
-quiet-has : (k : ℕ) → Quiet k → (P : Bool → Bool → Bool → Bool → Bool → Type 0) → P false false false false false
+quiet-has : (k : ℕ) → quiet k ≡ true → (P : Bool → Bool → Bool → Bool → Bool → Type 0) → P false false false false false
     → P (eqb k 5 || eqb k 13) (eqb k 10) (eqb k 17) (leb 6 k && leb k 10) (eqb k 24)
 quiet-has k q P h = go (eqb k 5 || eqb k 13) (eqb k 10) (eqb k 17) (leb 6 k && leb k 10) (eqb k 24) q
   where
@@ -65,7 +43,7 @@ quiet-has k q P h = go (eqb k 5 || eqb k 13) (eqb k 10) (eqb k 17) (leb 6 k && l
     go false false false false true p = absurd (false≢true p)
     go false false false false false p = h
 
-module _ (b i : ℕ) (w : List ℕ) (q : Quiet (kindAt w i)) where
+module _ (b i : ℕ) (w : List ℕ) (q : quiet (kindAt w i) ≡ true) where
   quiet-row : rowNoted b i w ≡ w
   unfolding rowNoted
   quiet-row =
@@ -102,9 +80,9 @@ module _ (text : Bytes) (rows : List Row) (num : Bytes → ℕ) (b : ℕ) (low :
   -- ---- a line's row
   module _ {w : List ℕ} (t : Table text rows num w) {i n : ℕ} {l : Line} {part : List Row} (h : Here rows i (row l n ∷ part)) where
     -- nothing below it is looked at
-    comes-quiet : Quiet (l .word) → i + suc n ≤ stop → Comes w i (i + suc n) []
+    comes-quiet : quiet (l .word) ≡ true → i + suc n ≤ stop → Comes w i (i + suc n) []
     comes-quiet q s =
-        let k : Quiet (kindAt w i) = subst Quiet (sym (row-kind t h)) q in
+        let k : quiet (kindAt w i) ≡ true = ap quiet (row-kind t h) ∙ q in
         comes-row (omega arith) (quiet-next b i w k ∙ row-after t h) (quiet-row b i w k)
 
     comes-name : (k from : ℕ) → kindAt w i ≡ k → (k < 6) ⊎ (10 < k) → (k ≡ 24 → ⊥) → rowNoted b i w ≡ noted b (numberAt w i) from w → Some (l .name)
@@ -135,8 +113,8 @@ module _ (text : Bytes) (rows : List Row) (num : Bytes → ℕ) (b : ℕ) (low :
     gather-t (var l) {w} i t d h m =
         let k : kindAt w i ≡ 17 = row-kind t h ∙ d .0 in
         comes-name t h 17 (suc i) k (inr (omega arith)) (λ c. omega arith) (row-var b i w k ∙ ap (λ f. noted b (numberAt w i) f w) (add-one i)) (d .1) m
-    gather-t (node l es) i t d h m = comes-quiet t h (quiet-node (d .0)) m
-    gather-t (access l es) i t d h m = comes-quiet t h (quiet-access (d .0)) m
+    gather-t (node l es) i t d h m = comes-quiet t h (node-test quiet refl (d .0)) m
+    gather-t (access l es) i t d h m = comes-quiet t h (access-test quiet refl (d .0)) m
     gather-t (tuple l es) {w} i t d h m =
         let k : kindAt w i ≡ 24 = row-kind t h ∙ d .0 in
         comes-two (comes-row (omega arith) (next-child w i k ∙ add-one i) (row-none b i w (λ c. omega arith) (λ c. omega arith) (λ c. omega arith) (λ c. omega arith)))
@@ -153,12 +131,12 @@ module _ (text : Bytes) (rows : List Row) (num : Bytes → ℕ) (b : ℕ) (low :
   -- ---- statements
   mutual
     gather-s : (s : Stmt) {w : List ℕ} (i : ℕ) → Table text rows num w → WordedS s → Here rows i (rowsS s) → i + lenS s ≤ stop → Comes w i (i + lenS s) (notesS s i)
-    gather-s (simple l es) i t d h m = comes-quiet t h (quiet-simple (d .0)) m
+    gather-s (simple l es) i t d h m = comes-quiet t h (simple-test quiet refl (d .0)) m
     gather-s (assign l e g) i t d h m =
         comes-two (comes-past t h e (omega (arith, d .0)) (omega (arith, d .0)) (here-left (rowsE e) (rowsE g) (here-tail h)) (omega arith))
         (gather-t g (suc i + lenE e) t (d .1 .1) (here-past (sized-e e) (rowsE g) (here-tail h)) (omega arith)) (omega arith)
     gather-s (block l c s) i t d h m =
-        comes-two (comes-past t h c (block-word (d .0) .0) (block-word (d .0) .1) (here-left (rowsE c) (rowsSs s) (here-tail h)) (omega arith))
+        comes-two (comes-past t h c (leb-true 6 _ (block-test (leb 6) refl (d .0))) (leb-true _ 9 (block-test (λ k. leb k 9) refl (d .0))) (here-left (rowsE c) (rowsSs s) (here-tail h)) (omega arith))
         (gather-ss s (suc i + lenE c) t (d .1 .1) (here-past (sized-e c) (rowsSs s) (here-tail h)) (omega arith)) (omega arith)
     gather-s (choice l c s k e) i t d h m =
         let rest : Here rows (suc i + lenE c) (rowsSs s ++ (rowsSs k ++ rowsSs e)) = here-past (sized-e c) (rowsSs s ++ (rowsSs k ++ rowsSs e)) (here-tail h) in

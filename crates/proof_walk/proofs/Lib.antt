@@ -1,6 +1,7 @@
 -- The walk leaves the kind of each fault in the slot of its row.
 pub mod State
 pub mod PartRows
+pub mod WordTests
 pub mod Noted
 pub mod Gathered
 pub mod Assigned

@@ -30,6 +30,7 @@ use Rattle.proof_walk.specs.Table.{ParamWord, method, Table, Here}
 use Rattle.proof_walk.specs.Notes.{Note, note, notesS, notesSs, notesD, assignedBy}
 use Rattle.proof_walk.proofs.State.{homeNumber}
 use Rattle.proof_walk.proofs.PartRows.{here-tail, here-left, here-past, row-few, row-kind, row-after, row-number, row-small, row-params, after-E, after-S}
+use Rattle.proof_walk.proofs.WordTests.{simple-test, block-test}
 use Rattle.proof_walk.proofs.Noted.{fair-new}
 use Rattle.proof_walk.proofs.Assigned.{Assigns, now-ss, stmts-first, stmts-rest, assign-still, assign-target, block-still, block-body, choice-still, choice-body, choice-elifs, choice-else, for-still, for-body, none-still, cut, def-body, locals}
 use Rattle.proof_walk.proofs.Opened.{OpenedDef, opened-def, opened-method}
@@ -37,7 +38,7 @@ use Rattle.proof_walk.proofs.Exprs.{Still, word-E, expr-walked}
 use Rattle.proof_walk.proofs.Done.{Right, Done, done-then, done-skip, done-fault, done-bind, done-walked, done-to, Looped, looped-one, looped-then, looped-to, looped-end}
 use Rattle.proof_walk.proofs.Targets.{target}
 use Rattle.proof_walk.proofs.Nested.{reopened-at, Entry, entry-def, entry-method, Block, Ready, ready-on, enter, nested}
-use Rattle.proof_walk.proofs.ByKind.{some-stmt, stmt-kind, plain, plain-simple, plain-block, kids, at-plain, at-assign, at-for, at-def, at-class, at-method, at-attr, line-stmt, line-expr}
+use Rattle.proof_walk.proofs.ByKind.{some-stmt, stmt-kind, plain, kids, at-plain, at-assign, at-for, at-def, at-class, at-method, at-attr, line-stmt, line-expr}
 
 -- a name that a def or a class has is not assigned by that
 named-still : {ns : List Note} {a : List Part} {y : Part} {i j : ℕ} → j < never → Assigns ns a (note never y ∷ []) i j → (x : Bytes) (r : ℕ) → i ≤ r → r ≤ j → mem x a ≡ assignedBy ns x r
@@ -304,7 +305,7 @@ module _ (text : Bytes) (rows : List Row) (num : Bytes → ℕ) where
         → Done text rows num ns s v st (afterS t st) seen (rawS t n [] v st) w (walkStmt (suc k) text s r w) r (r + lenS t)
     stmt (simple l es) k r n j b {st} q f m z c here d h by =
         let top = head b k h (omega arith) (λ i x. none-still (by i) x (suc r) (omega arith) (omega arith)) in
-        plain-done b k l (lenEs es) (rowsEs es) r (plain-simple (d .0)) here h top (omega arith)
+        plain-done b k l (lenEs es) (rowsEs es) r (simple-test plain refl (d .0)) here h top (omega arith)
         (exprs-looped b k es (suc r) (suc n) (r + suc (lenEs es)) (omega arith) (omega arith) (omega arith) m (here-tail here) (d .1) (ready-on b h top)
         (λ i. cut (by i) (suc r) (suc r + lenEs es) (omega arith) (omega arith)))
     stmt (assign l e t) k r n j {ns} {s} {v} b {st} {seen} {w} q f m z c here d h by =
@@ -324,7 +325,7 @@ module _ (text : Bytes) (rows : List Row) (num : Bytes → ℕ) where
         (target (b .flat) (b .room) k stop m t (suc r + lenE e) (suc n + lenE e) j (omega arith) (omega arith) (omega arith) (omega arith) c
         (here-past (sized-e e) (rowsE t) (here-tail here)) (d .1 .1) (h₂ .at) (λ i. assign-target c l e t z (by i)))))))
     stmt (block l e bd) k r n j b {st} q f m z c here d h by =
-        test-done b k l e (lenE e + lenSs bd) (rowsSs bd) r n (plain-block (d .0)) q (omega arith) m (omega arith) here (d .1 .0) h (λ i. block-still c l e bd z (by i))
+        test-done b k l e (lenE e + lenSs bd) (rowsSs bd) r n (block-test plain refl (d .0)) q (omega arith) m (omega arith) here (d .1 .0) h (λ i. block-still c l e bd z (by i))
         (λ u h. looped-to (omega arith) refl
         (stmts bd k (suc r + lenE e) (suc n + lenE e) j (r + suc (lenE e + lenSs bd)) b (omega arith) (omega arith) (omega arith) m (omega arith) c
         (here-past (sized-e e) (rowsSs bd) (here-tail here)) (d .1 .1) h (λ i. block-body c l e bd z (by i))))

@@ -3,7 +3,7 @@
 use Prim.Native.Nat.{ℕ, suc, _+_, _≤_, _<_}
 use native.Mathlib.Numerals.{add-one}
 use native.Mathlib.Omega.{arith}
-use mathlib.Core.Path.{_≡_, refl, sym, ap, ap₂, _∙_, subst}
+use mathlib.Core.Path.{_≡_, refl, sym, ap, ap₂, _∙_}
 use mathlib.Core.Bool.{Bool, true, false, cond, not, _&&_, false≢true}
 use mathlib.Core.List.{List, [], _∷_, _++_}
 use lib.Dec.{eqb}
@@ -22,12 +22,13 @@ use Rattle.work_rows.specs.LoopsModel.{rowsTo}
 use Rattle.work_rows.proofs.Loops.{rows-more}
 use Rattle.walk_scopes.specs.ScopesModel.{defined}
 use Rattle.walk_scopes.specs.declared.ScopeStack.{ScopeStack}
-use Rattle.read_row.specs.Worded.{NodeWord, lit, un, bin, list, set, treeset, dict, AccessWord, index, get, WordedE, WordedEs}
+use Rattle.read_row.specs.Worded.{AccessWord, index, get, WordedE, WordedEs}
 use Rattle.walk_tree.specs.WalkModel.{nextTarget, targetAt, walkExpr}
 use Rattle.proof_walk.specs.Table.{Here}
 use Rattle.proof_walk.specs.Notes.{Note, notesT, notesTs, assignedBy}
 use Rattle.proof_walk.proofs.State.{At}
 use Rattle.proof_walk.proofs.PartRows.{here-tail, here-left, here-past, row-kind, row-after, row-number, row-small}
+use Rattle.proof_walk.proofs.WordTests.{node-test}
 use Rattle.proof_walk.proofs.Assigned.{Assigns, range-ts, still, end-t, targets-first, targets-rest, tuple-parts, none-still}
 use Rattle.proof_walk.proofs.Exprs.{Flat, exprs-walked}
 use Rattle.proof_walk.proofs.Done.{Right, Done, done-then, done-skip, done-fault, done-bind, done-walked, done-to, Looped, looped-one, looped-then, looped-to}
@@ -42,17 +43,8 @@ next-on w i = go (eqb (kindAt w i) 24)
     go false = omega arith
 
 -- a kind that no target has
-abbrev Refused : ℕ → Type 0
-Refused k = (not (eqb k 17) && (not (eqb k 24) && (not (eqb k 20) && not (eqb k 22)))) ≡ true
-
-refused-node : {k : ℕ} → NodeWord k → Refused k
-refused-node lit = refl
-refused-node un = refl
-refused-node bin = refl
-refused-node list = refl
-refused-node set = refl
-refused-node treeset = refl
-refused-node dict = refl
+abbrev noTarget : ℕ → Bool
+noTarget k = not (eqb k 17) && (not (eqb k 24) && (not (eqb k 20) && not (eqb k 22)))
 
 module _ (value : ℕ → List ℕ → List ℕ) (s : ScopeStack) (i : ℕ) (w : List ℕ) where
   -- what the loop does at row i, and where it goes on
@@ -73,7 +65,7 @@ module _ (value : ℕ → List ℕ → List ℕ) (s : ScopeStack) (i : ℕ) (w :
   turn-access index e = record { does = rw e refl; next = rw e refl }
   turn-access get e = record { does = rw e refl; next = rw e refl }
 
-  turn-refused : Refused (kindAt w i) → Turn (putSlot w i 14) (afterRow w i)
+  turn-refused : noTarget (kindAt w i) ≡ true → Turn (putSlot w i 14) (afterRow w i)
   unfolding targetAt nextTarget
   turn-refused r = go (eqb (kindAt w i) 17) (eqb (kindAt w i) 24) (eqb (kindAt w i) 20) (eqb (kindAt w i) 22) refl refl refl refl r
     where
@@ -102,11 +94,11 @@ turn text k s stop {r} {w = w} l t p q =
 module _ {text : Bytes} {rows : List Row} {num : Bytes → ℕ} {ns : List Note} {s : ScopeStack} {v : Env} (flat : Flat s v) (room : s .end ≤ length rows) (k stop : ℕ) (end : stop ≤ s .end) where
   -- a line of another kind
   refused : (l : Line) (below : ℕ) (part : List Row) (r n : ℕ) {st : State} {seen : List Fault} {w : List ℕ} → n ≡ suc (suc r) → r + suc below ≤ stop → Here rows r (row l below ∷ part)
-      → Refused (l .word) → At text rows num ns s [] v st seen w r → Right ns v (st .assigned) (r + suc below)
+      → noTarget (l .word) ≡ true → At text rows num ns s [] v st seen w r → Right ns v (st .assigned) (r + suc below)
       → Looped text rows num ns s v (turns text k s stop) st st seen (refusedAt n l ∷ []) w r (r + suc below)
   refused l below part r n {st} {seen} {w} q m here other h right =
       looped-one
-      (turn text k s stop (omega arith) (turn-refused (walkExpr k text false s) s r w (subst Refused (sym (row-kind (h .row .table) here)) other)) refl (row-after (h .row .table) here))
+      (turn text k s stop (omega arith) (turn-refused (walkExpr k text false s) s r w (ap noTarget (row-kind (h .row .table) here) ∙ other)) refl (row-after (h .row .table) here))
       (done-fault h (refusedAt n l) refl q (omega arith) (omega arith) (omega arith) (omega arith) right)
 
   mutual
@@ -121,7 +113,7 @@ module _ {text : Bytes} {rows : List Row} {num : Bytes → ℕ} {ns : List Note}
         (done-bind h (l .name) (l .name ∷ st .assigned) (flat .inner) (omega arith) (row-small (h .row .table) here (d .1)) (omega arith) (omega arith)
         (λ i. end-t c (var l) st (by i) (r + 1) (omega arith) (omega arith)))
     target (node l es) r n j q f m b c here d h by =
-        refused l (lenEs es) (rowsEs es) r n q m here (refused-node (d .0)) h (λ i x. none-still (by i) x (r + suc (lenEs es)) (omega arith) b)
+        refused l (lenEs es) (rowsEs es) r n q m here (node-test noTarget refl (d .0)) h (λ i x. none-still (by i) x (r + suc (lenEs es)) (omega arith) b)
     target (access l es) r n j {st} {seen} {w} q f m b c here d h by =
         let e : suc r + lenEs es ≡ r + suc (lenEs es) = omega arith in
         let head : Done text rows num ns s v st st seen [] w w r (suc r) =
@@ -140,9 +132,9 @@ module _ {text : Bytes} {rows : List Row} {num : Bytes → ℕ} {ns : List Note}
         (turn text k s stop (omega arith) (turn-tuple (walkExpr k text false s) s r w (row-kind (h .row .table) here ∙ d .0)) refl (add-one r)) head
         (targets es (suc r) (suc n) j (omega arith) (omega arith) (omega arith) (omega arith) c (here-tail here) (d .1) (head .after) (λ i. tuple-parts c l es (by i))))
     target (call l g es) r n j q f m b c here d h by =
-        refused l (lenE g + lenEs es) (rowsE g ++ rowsEs es) r n q m here (rw (d .0) refl) h (λ i x. none-still (by i) x (r + suc (lenE g + lenEs es)) (omega arith) b)
+        refused l (lenE g + lenEs es) (rowsE g ++ rowsEs es) r n q m here (ap noTarget (d .0)) h (λ i x. none-still (by i) x (r + suc (lenE g + lenEs es)) (omega arith) b)
     target (lambda l e) r n j q f m b c here d h by =
-        refused l (lenE e) (rowsE e) r n q m here (rw (d .0) refl) h (λ i x. none-still (by i) x (r + suc (lenE e)) (omega arith) b)
+        refused l (lenE e) (rowsE e) r n q m here (ap noTarget (d .0)) h (λ i x. none-still (by i) x (r + suc (lenE e)) (omega arith) b)
 
     targets : (es : Exprs) (r n j : ℕ) {st : State} {seen : List Fault} {w : List ℕ} → n ≡ suc (suc r) → lenEs es ≤ k → r + lenEs es ≤ stop → r + lenEs es ≤ j → j < never
         → Here rows r (rowsEs es) → WordedEs es → At text rows num ns s [] v st seen w r → (v .home ≡ inDef → Assigns ns (st .assigned) (notesTs es r) r j)
