@@ -101,15 +101,16 @@ module _ (k : ℕ) (text : Bytes) (s : ScopeStack) (called : Bool) (i : ℕ) (w 
   unfolding exprAt
   at-other n a b c e = walk-on ∙ rw (e, a, b, c)
 
--- they all are words of expressions
+-- the other kinds, and no word of a statement
+abbrev other : ℕ → Bool
+other n = not (eqb n 17) && (not (eqb n 21) && (not (eqb n 28) && not (ltb n 16)))
+
+-- what its tests say
 record Plain (n : ℕ) : Type 0 where
   pub var : eqb n 17 ≡ false
   pub call : eqb n 21 ≡ false
   pub lambda : eqb n 28 ≡ false
   pub expr : ltb n 16 ≡ false
-
-abbrev other : ℕ → Bool
-other n = not (eqb n 17) && (not (eqb n 21) && (not (eqb n 28) && not (ltb n 16)))
 
 plain : (n : ℕ) → other n ≡ true → Plain n
 plain n e =

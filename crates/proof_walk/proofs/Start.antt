@@ -24,7 +24,7 @@ use Rattle.read_names.specs.ChainsModel.{lookup}
 use Rattle.work_rows.specs.Rows.{Row, globalRow, rowsSs, rowsT}
 use Rattle.read_tree.specs.Laid.{noRow}
 use Rattle.work_rows.proofs.Lengths.{rows-length}
-use Rattle.work_marks.specs.MarksModel.{lambdaEnd, blockEnd, slotAt, stampAt, putStamp, raisedBlock}
+use Rattle.work_marks.specs.MarksModel.{lambdaEnd, blockEnd, stampAt, putStamp, raisedBlock}
 use Rattle.work_marks.proofs.Writes.{Words, Kept, kept-refl, kept-trans, words-put, kept-stamp, words-stamp, stamp-same, stamp-other, stamp-apart}
 use Rattle.work_rows.proofs.Loops.{rows-end}
 use Rattle.walk_scopes.specs.ScopesModel.{atModule, defined}
@@ -307,6 +307,3 @@ module _ (text : Bytes) (t : Tree) (num : Bytes → ℕ) (w : List ℕ) (table :
 
   pub started-kept : Kept w started
   started-kept = kept-trans (clears .kept) (bound .change .kept)
-
-  pub started-clean : (i : ℕ) → i < R → slotAt started i ≡ 0
-  started-clean i l = bound .after .row .clean i (omega arith) l

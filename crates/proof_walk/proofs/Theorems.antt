@@ -1,5 +1,5 @@
 -- The whole walk over a buffer that holds the rows of a tree leaves in the slots of its statements the faults of the tree, in the text's
--- order and once for a lambda and a name; the slots of `global` lines are empty, and what the rows say stays.
+-- order and once for a lambda and a name; and what the rows say stays.
 use Prim.Native.Nat.{ℕ, _+_, _-_, _<_}
 use native.Mathlib.Omega.{arith}
 use mathlib.Core.Path.{_≡_, ap, _∙_}
@@ -11,14 +11,13 @@ use Rattle.spec_faults.proofs.ListingWalk.{moduleEnv, startState}
 use Rattle.spec_faults.proofs.TextWalk.{rawSs}
 use Rattle.spec_faults.proofs.Deduped.{dedupe}
 use Rattle.work_rows.specs.Rows.{rowsT}
-use Rattle.work_rows.proofs.Lengths.{rows-length}
-use Rattle.work_marks.specs.MarksModel.{lambdaEnd, slotAt}
+use Rattle.work_marks.specs.MarksModel.{lambdaEnd}
 use Rattle.work_marks.proofs.Writes.{Words, Kept, kept-trans}
 use Rattle.read_row.specs.Worded.{Somes, WordedSs}
 use Rattle.walk_tree.specs.WalkModel.{walked}
 use Rattle.proof_walk.specs.Table.{Table}
 use Rattle.proof_walk.specs.Slots.{slotsFrom, keys}
-use Rattle.proof_walk.proofs.Start.{statements, started-kept, started-clean}
+use Rattle.proof_walk.proofs.Start.{statements, started-kept}
 
 -- numbers of names are rows; no row says that a lambda is open
 module _ (text : Bytes) (t : Tree) (num : Bytes → ℕ) (w : List ℕ) (table : Table text (rowsT t) num w) (words : Words w) (worded : WordedSs (t .body)) (named : Somes (t .globals))
@@ -35,11 +34,3 @@ module _ (text : Bytes) (t : Tree) (num : Bytes → ℕ) (w : List ℕ) (table :
 
   pub walked-kept : Kept w after
   walked-kept = kept-trans (started-kept text t num w table words worded named small closed) (statements text t num w table words worded named small closed .change .kept)
-
-  pub walked-globals : (i : ℕ) → i < length (t .globals) → slotAt after i ≡ 0
-  walked-globals i l =
-      statements text t num w table words worded named small closed .change .before i l
-      ∙ started-clean text t num w table words worded named small closed i (omega (arith, rows-length t))
-
-  pub walked-words : Words after
-  walked-words = statements text t num w table words worded named small closed .after .row .words
