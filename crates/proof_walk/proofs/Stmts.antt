@@ -35,7 +35,7 @@ use Rattle.proof_walk.proofs.Noted.{fair-new}
 use Rattle.proof_walk.proofs.Assigned.{Assigns, now-ss, stmts-first, stmts-rest, assign-still, assign-target, block-still, block-body, choice-still, choice-body, choice-elifs, choice-else, for-still, for-body, none-still, cut, def-body, locals}
 use Rattle.proof_walk.proofs.Opened.{OpenedDef, opened-def, opened-method}
 use Rattle.proof_walk.proofs.Exprs.{Still, word-E, expr-walked}
-use Rattle.proof_walk.proofs.Done.{Right, Done, done-then, done-skip, done-fault, done-bind, done-walked, done-to, Looped, looped-one, looped-then, looped-to, looped-end}
+use Rattle.proof_walk.proofs.Done.{Right, Done, Spans, done-then, done-skip, done-fault, done-bind, done-walked, done-to, Looped, looped-one, looped-then, looped-to, looped-end}
 use Rattle.proof_walk.proofs.Targets.{target}
 use Rattle.proof_walk.proofs.Nested.{reopened-at, Entry, entry-def, entry-method, Block, Ready, ready-on, enter, nested}
 use Rattle.proof_walk.proofs.ByKind.{some-stmt, stmt-kind, plain, kids, at-plain, at-assign, at-for, at-def, at-class, at-method, at-attr, line-stmt, line-expr}
@@ -62,35 +62,35 @@ module _ (text : Bytes) (rows : List Row) (num : Bytes → ℕ) where
     head {st} h l right = done-skip (h .at) (st .assigned) (omega arith) (omega (arith, b .room)) right
 
     -- an expression; a are the assigned names after it
-    expr-done : (e : Expr) (r n : ℕ) (a : List Part) {st : State} {seen : List Fault} {w : List ℕ} → n ≡ suc (suc r) → lenE e ≤ k → r + lenE e ≤ s .end → Here rows r (rowsE e)
-        → WordedE e → R st seen w r → Still ns v st r (r + lenE e) → Right ns v a (r + lenE e)
+    expr-done : (e : Expr) (r n j : ℕ) (a : List Part) {st : State} {seen : List Fault} {w : List ℕ} → Spans (lenE e) k r n (s .end) j → Here rows r (rowsE e) → WordedE e
+        → R st seen w r → Still ns v st r (r + lenE e) → Right ns v a (r + lenE e)
         → D st (record { view = st .view; assigned = a }) seen (rawE e n value [] v st) w (walkExpr k text false s r w) r (r + lenE e)
-    expr-done e r n a {st} q f l here d h still right =
-        done-to refl (ap (λ i. rawE e i value [] v st) (sym q))
-        (done-walked a refl right (expr-walked k r e here d f l (b .room) (b .flat) (h .at) still))
+    expr-done e r n j a {st} f here d h still right =
+        done-to refl (ap (λ i. rawE e i value [] v st) (sym (f .line)))
+        (done-walked a refl right (expr-walked k r e here d (f .depth) (f .inside) (b .room) (b .flat) (h .at) still))
 
     -- the same as a line of a loop
-    expr-looped : (e : Expr) (r n stop : ℕ) (a : List Part) {st : State} {seen : List Fault} {w : List ℕ} → n ≡ suc (suc r) → lenE e ≤ k → r + lenE e ≤ stop → stop ≤ s .end
+    expr-looped : (e : Expr) (r n stop j : ℕ) (a : List Part) {st : State} {seen : List Fault} {w : List ℕ} → Spans (lenE e) k r n stop j → stop ≤ s .end
         → Here rows r (rowsE e) → WordedE e → R st seen w r → Still ns v st r (r + lenE e) → Right ns v a (r + lenE e)
         → L stop st (record { view = st .view; assigned = a }) seen (rawE e n value [] v st) w r (r + lenE e)
-    expr-looped e r n stop a {w = w} q f l m here d h still right =
+    expr-looped e r n stop j a {w = w} f m here d h still right =
         looped-one (line-expr text k s stop r w (omega arith) (r + lenE e) (after-E (h .at .row .table) e here) (word-E (h .at .row .table) e here d))
-        (expr-done e r n a q f (omega arith) here d h still right)
+        (expr-done e r n j a (omega arith) here d h still right)
 
-    exprs-looped : (es : Exprs) (r n stop : ℕ) {st : State} {seen : List Fault} {w : List ℕ} → n ≡ suc (suc r) → lenEs es ≤ k → r + lenEs es ≤ stop → stop ≤ s .end
-        → Here rows r (rowsEs es) → WordedEs es → R st seen w r → (v .home ≡ inDef → Assigns ns (st .assigned) [] r (r + lenEs es))
+    exprs-looped : (es : Exprs) (r n stop j : ℕ) {st : State} {seen : List Fault} {w : List ℕ} → Spans (lenEs es) k r n stop j → stop ≤ s .end
+        → Here rows r (rowsEs es) → WordedEs es → R st seen w r → (v .home ≡ inDef → Assigns ns (st .assigned) [] r j)
         → L stop st st seen (rawEs es n [] v st) w r (r + lenEs es)
-    exprs-looped enil r n stop {st} {w = w} q f l m here d h by =
+    exprs-looped enil r n stop j {st} {w = w} f m here d h by =
         let e : r ≡ r + 0 = omega arith in
         looped-one (ap (λ i. kids text k s stop i w) e)
         (done-skip (h .at) (st .assigned) (omega arith) (omega (arith, b .room)) (λ i x. none-still (by i) x (r + 0) (omega arith) (omega arith)))
-    exprs-looped (econs e es) r n stop {st} {seen} {w} q f l m here d h by =
+    exprs-looped (econs e es) r n stop j {st} {seen} {w} f m here d h by =
         let first : L stop st st seen (rawE e n value [] v st) w r (r + lenE e) =
-        expr-looped e r n stop (st .assigned) q (omega arith) (omega arith) m (here-left (rowsE e) (rowsEs es) here) (d .0) h
+        expr-looped e r n stop j (st .assigned) (omega arith) m (here-left (rowsE e) (rowsEs es) here) (d .0) h
         (λ i x z u y. none-still (by i) x z u (omega arith)) (λ i x. none-still (by i) x (r + lenE e) (omega arith) (omega arith)) in
         looped-to (omega arith) refl (looped-then (first .goes) (first .done)
-        (exprs-looped es (r + lenE e) (n + lenE e) stop (omega arith) (omega arith) (omega arith) m (here-past (sized-e e) (rowsEs es) here) (d .1) (ready-on b h (first .done))
-        (λ i. cut (by i) (r + lenE e) (r + lenE e + lenEs es) (omega arith) (omega arith))))
+        (exprs-looped es (r + lenE e) (n + lenE e) stop j (omega arith) m (here-past (sized-e e) (rowsEs es) here) (d .1) (ready-on b h (first .done))
+        (λ i. cut (by i) (r + lenE e) j (omega arith) (omega arith))))
 
     -- the lines below the row r of a plain statement are one loop
     plain-done : (l : Line) (below : ℕ) (part : List Row) (r : ℕ) {st st′ : State} {seen fs : List Fault} {w : List ℕ} → plain (l .word) ≡ true → Here rows r (row l below ∷ part)
@@ -106,16 +106,16 @@ module _ (text : Bytes) (rows : List Row) (num : Bytes → ℕ) where
     Until st r e = v .home ≡ inDef → (x : Bytes) (a : ℕ) → r ≤ a → a ≤ e → mem x (st .assigned) ≡ assignedBy ns x a
 
     -- a plain statement whose first line is an expression
-    test-done : (l : Line) (e : Expr) (below : ℕ) (part : List Row) (r n : ℕ) {st st′ : State} {seen gs : List Fault} {w : List ℕ} → plain (l .word) ≡ true → n ≡ suc (suc r) → lenE e ≤ k
-        → r + suc below ≤ s .end → suc r + lenE e ≤ r + suc below → Here rows r (row l below ∷ (rowsE e ++ part)) → WordedE e → R st seen w r → Until st r (suc r + lenE e)
+    test-done : (l : Line) (e : Expr) (below : ℕ) (part : List Row) (r n j : ℕ) {st st′ : State} {seen gs : List Fault} {w : List ℕ} → plain (l .word) ≡ true
+        → Spans (suc below) (suc k) r n (s .end) j → lenE e ≤ below → Here rows r (row l below ∷ (rowsE e ++ part)) → WordedE e → R st seen w r → Until st r (suc r + lenE e)
         → ((z : List ℕ) → R st (seenAfter seen (rawE e (suc n) value [] v st)) z (suc r + lenE e)
         → L (r + suc below) st st′ (seenAfter seen (rawE e (suc n) value [] v st)) gs z (suc r + lenE e) (r + suc below))
         → D st st′ seen (rawE e (suc n) value [] v st ++ gs) w (walkStmt (suc k) text s r w) r (r + suc below)
-    test-done l e below part r n {st} {st′} {seen} {gs} {w} p q f m o here d h still rest =
+    test-done l e below part r n j {st} {st′} {seen} {gs} {w} p f o here d h still rest =
         let top : D st st seen [] w w r (suc r) = head h (omega arith) (λ i x. still i x (suc r) (omega arith) (omega arith)) in
         let h₁ : R st seen w (suc r) = ready-on b h top in
         let test : L (r + suc below) st st seen (rawE e (suc n) value [] v st) w (suc r) (suc r + lenE e) =
-        expr-looped e (suc r) (suc n) (r + suc below) (st .assigned) (omega arith) f o m (here-left (rowsE e) part (here-tail here)) d h₁
+        expr-looped e (suc r) (suc n) (r + suc below) j (st .assigned) (omega arith) (f .inside) (here-left (rowsE e) part (here-tail here)) d h₁
         (λ i x a u y. still i x a (omega arith) (omega arith)) (λ i x. still i x (suc r + lenE e) (omega arith) (omega arith)) in
         plain-done l below (rowsE e ++ part) r p here h top refl (looped-then (test .goes) (test .done) (rest (test .there) (ready-on b h₁ (test .done))))
 
@@ -299,60 +299,60 @@ module _ (text : Bytes) (rows : List Row) (num : Bytes → ℕ) where
   -- ---- statements
   mutual
     -- j is a row after the statement
-    stmt : (t : Stmt) (k r n j : ℕ) {ns : List Note} {s : ScopeStack} {v : Env} (b : Block rows ns s v) {st : State} {seen : List Fault} {w : List ℕ} → n ≡ suc (suc r)
-        → lenS t ≤ suc k → r + lenS t ≤ s .end → r + lenS t ≤ j → j < never → Here rows r (rowsS t) → WordedS t → Ready text num b st seen w r
+    stmt : (t : Stmt) (k r n j : ℕ) {ns : List Note} {s : ScopeStack} {v : Env} (b : Block rows ns s v) {st : State} {seen : List Fault} {w : List ℕ}
+        → Spans (lenS t) (suc k) r n (s .end) j → Here rows r (rowsS t) → WordedS t → Ready text num b st seen w r
         → (v .home ≡ inDef → Assigns ns (st .assigned) (notesS t r) r j)
         → Done text rows num ns s v st (afterS t st) seen (rawS t n [] v st) w (walkStmt (suc k) text s r w) r (r + lenS t)
-    stmt (simple l es) k r n j b {st} q f m z c here d h by =
+    stmt (simple l es) k r n j b {st} f here d h by =
         let top = head b k h (omega arith) (λ i x. none-still (by i) x (suc r) (omega arith) (omega arith)) in
         plain-done b k l (lenEs es) (rowsEs es) r (simple-test plain refl (d .0)) here h top (omega arith)
-        (exprs-looped b k es (suc r) (suc n) (r + suc (lenEs es)) (omega arith) (omega arith) (omega arith) m (here-tail here) (d .1) (ready-on b h top)
-        (λ i. cut (by i) (suc r) (suc r + lenEs es) (omega arith) (omega arith)))
-    stmt (assign l e t) k r n j {ns} {s} {v} b {st} {seen} {w} q f m z c here d h by =
+        (exprs-looped b k es (suc r) (suc n) (r + suc (lenEs es)) j (omega arith) (f .inside) (here-tail here) (d .1) (ready-on b h top)
+        (λ i. cut (by i) (suc r) j (omega arith) (omega arith)))
+    stmt (assign l e t) k r n j {ns} {s} {v} b {st} {seen} {w} f here d h by =
         let stop : ℕ = r + suc (lenE e + lenE t) in
         let at : Table text rows num w = h .at .row .table in
-        let top = head b k h (omega arith) (λ i x. assign-still c l e t z (by i) x (suc r) (omega arith) (omega arith)) in
+        let top = head b k h (omega arith) (λ i x. assign-still (f .early) l e t (f .before) (by i) x (suc r) (omega arith) (omega arith)) in
         let h₁ = ready-on b h top in
         let left : Here rows (suc r) (rowsE e) = here-left (rowsE e) (rowsE t) (here-tail here) in
-        let val = expr-done b k e (suc r) (suc n) (st .assigned) (omega arith) (omega arith) (omega arith) left (d .1 .0) h₁
-        (λ i x a u y. assign-still c l e t z (by i) x a (omega arith) (omega arith)) (λ i x. assign-still c l e t z (by i) x (suc r + lenE e) (omega arith) (omega arith)) in
+        let val = expr-done b k e (suc r) (suc n) j (st .assigned) (omega arith) left (d .1 .0) h₁
+        (λ i x a u y. assign-still (f .early) l e t (f .before) (by i) x a (omega arith) (omega arith)) (λ i x. assign-still (f .early) l e t (f .before) (by i) x (suc r + lenE e) (omega arith) (omega arith)) in
         let h₂ = ready-on b h₁ val in
         subst (λ u. Done text rows num ns s v st (afterT t st) seen (rawE e (suc n) value [] v st ++ rawT t (suc n + lenE e) [] v st) w u r stop)
         (sym (at-assign text k s r w (row-few at here) stop (row-after at here) (row-kind at here ∙ d .0) (suc r + lenE e) (after-E at e left)))
         (done-then top (done-then val (looped-end
         (λ u. rows-end nextTarget (targetAt (walkExpr k text false s) s) stop stop u (omega arith))
         (looped-to (omega arith) refl
-        (target (b .flat) (b .room) k stop m t (suc r + lenE e) (suc n + lenE e) j (omega arith) (omega arith) (omega arith) (omega arith) c
-        (here-past (sized-e e) (rowsE t) (here-tail here)) (d .1 .1) (h₂ .at) (λ i. assign-target c l e t z (by i)))))))
-    stmt (block l e bd) k r n j b {st} q f m z c here d h by =
-        test-done b k l e (lenE e + lenSs bd) (rowsSs bd) r n (block-test plain refl (d .0)) q (omega arith) m (omega arith) here (d .1 .0) h (λ i. block-still c l e bd z (by i))
+        (target (b .flat) (b .room) k stop (f .inside) t (suc r + lenE e) (suc n + lenE e) j (omega arith)
+        (here-past (sized-e e) (rowsE t) (here-tail here)) (d .1 .1) (h₂ .at) (λ i. assign-target (f .early) l e t (f .before) (by i)))))))
+    stmt (block l e bd) k r n j b {st} f here d h by =
+        test-done b k l e (lenE e + lenSs bd) (rowsSs bd) r n j (block-test plain refl (d .0)) f (omega arith) here (d .1 .0) h (λ i. block-still (f .early) l e bd (f .before) (by i))
         (λ u h. looped-to (omega arith) refl
-        (stmts bd k (suc r + lenE e) (suc n + lenE e) j (r + suc (lenE e + lenSs bd)) b (omega arith) (omega arith) (omega arith) m (omega arith) c
-        (here-past (sized-e e) (rowsSs bd) (here-tail here)) (d .1 .1) h (λ i. block-body c l e bd z (by i))))
-    stmt (choice l e bd ks es) k r n j {ns} {s} {v} b {st} q f m z c here d h by =
+        (stmts bd k (suc r + lenE e) (suc n + lenE e) j (r + suc (lenE e + lenSs bd)) b (omega arith) (f .inside)
+        (here-past (sized-e e) (rowsSs bd) (here-tail here)) (d .1 .1) h (λ i. block-body (f .early) l e bd (f .before) (by i))))
+    stmt (choice l e bd ks es) k r n j {ns} {s} {v} b {st} f here d h by =
         let below : ℕ = lenE e + (lenSs bd + (lenSs ks + lenSs es)) in
         let rest : Here rows (suc r + lenE e) (rowsSs bd ++ (rowsSs ks ++ rowsSs es)) = here-past (sized-e e) (rowsSs bd ++ (rowsSs ks ++ rowsSs es)) (here-tail here) in
         let last : Here rows (suc r + lenE e + lenSs bd) (rowsSs ks ++ rowsSs es) = here-past (sized-ss bd) (rowsSs ks ++ rowsSs es) rest in
-        test-done b k l e below (rowsSs bd ++ (rowsSs ks ++ rowsSs es)) r n (ap plain (d .0)) q (omega arith) m (omega arith) here (d .1 .0) h
-        (λ i. choice-still c l e bd ks es st z (by i))
+        test-done b k l e below (rowsSs bd ++ (rowsSs ks ++ rowsSs es)) r n j (ap plain (d .0)) f (omega arith) here (d .1 .0) h
+        (λ i. choice-still (f .early) l e bd ks es st (f .before) (by i))
         (λ u h.
-        let one = stmts bd k (suc r + lenE e) (suc n + lenE e) (suc r + lenE e + lenSs bd) (r + suc below) b (omega arith) (omega arith) (omega arith) m (omega arith) (omega arith)
-        (here-left (rowsSs bd) (rowsSs ks ++ rowsSs es) rest) (d .1 .1 .0) h (λ i. choice-body c l e bd ks es st z (by i)) in
+        let one = stmts bd k (suc r + lenE e) (suc n + lenE e) (suc r + lenE e + lenSs bd) (r + suc below) b (omega arith) (f .inside)
+        (here-left (rowsSs bd) (rowsSs ks ++ rowsSs es) rest) (d .1 .1 .0) h (λ i. choice-body (f .early) l e bd ks es st (f .before) (by i)) in
         let h₁ = ready-on b h (one .done) in
-        let two = stmts ks k (suc r + lenE e + lenSs bd) (suc n + lenE e + lenSs bd) (suc r + lenE e + lenSs bd + lenSs ks) (r + suc below) b (omega arith) (omega arith) (omega arith) m (omega arith) (omega arith)
-        (here-left (rowsSs ks) (rowsSs es) last) (d .1 .1 .1 .0) h₁ (λ i. choice-elifs c l e bd ks es st z (by i)) in
+        let two = stmts ks k (suc r + lenE e + lenSs bd) (suc n + lenE e + lenSs bd) (suc r + lenE e + lenSs bd + lenSs ks) (r + suc below) b (omega arith) (f .inside)
+        (here-left (rowsSs ks) (rowsSs es) last) (d .1 .1 .1 .0) h₁ (λ i. choice-elifs (f .early) l e bd ks es st (f .before) (by i)) in
         looped-to (omega arith) refl (looped-then (one .goes) (one .done) (looped-then (two .goes) (two .done)
-        (stmts es k (suc r + lenE e + lenSs bd + lenSs ks) (suc n + lenE e + lenSs bd + lenSs ks) j (r + suc below) b (omega arith) (omega arith) (omega arith) m (omega arith) c
-        (here-past (sized-ss ks) (rowsSs es) last) (d .1 .1 .1 .1) (ready-on b h₁ (two .done)) (λ i. choice-else c l e bd ks es st z (by i))))))
-    stmt (for l e bd) k r n j {ns} {s} {v} b {st} {seen} {w} q f m z c here d h by =
+        (stmts es k (suc r + lenE e + lenSs bd + lenSs ks) (suc n + lenE e + lenSs bd + lenSs ks) j (r + suc below) b (omega arith) (f .inside)
+        (here-past (sized-ss ks) (rowsSs es) last) (d .1 .1 .1 .1) (ready-on b h₁ (two .done)) (λ i. choice-else (f .early) l e bd ks es st (f .before) (by i))))))
+    stmt (for l e bd) k r n j {ns} {s} {v} b {st} {seen} {w} f here d h by =
         let stop : ℕ = r + suc (lenE e + lenSs bd) in
         let at : Table text rows num w = h .at .row .table in
-        let top = head b k h (omega arith) (λ i x. for-still c l e bd z (by i) x (suc r) (omega arith) (omega arith)) in
+        let top = head b k h (omega arith) (λ i x. for-still (f .early) l e bd (f .before) (by i) x (suc r) (omega arith) (omega arith)) in
         let h₁ = ready-on b h top in
         let left : Here rows (suc r) (rowsE e) = here-left (rowsE e) (rowsSs bd) (here-tail here) in
-        let right : Right ns v (l .name ∷ st .assigned) (suc r + lenE e) = λ i. now-ss c bd (for-body c l e bd z (by i)) (omega arith) in
-        let val = expr-done b k e (suc r) (suc n) (l .name ∷ st .assigned) (omega arith) (omega arith) (omega arith) left (d .1 .1 .0) h₁
-        (λ i x a u y. for-still c l e bd z (by i) x a (omega arith) y) right in
+        let right : Right ns v (l .name ∷ st .assigned) (suc r + lenE e) = λ i. now-ss (f .early) bd (for-body (f .early) l e bd (f .before) (by i)) (omega arith) in
+        let val = expr-done b k e (suc r) (suc n) j (l .name ∷ st .assigned) (omega arith) left (d .1 .1 .0) h₁
+        (λ i x a u y. for-still (f .early) l e bd (f .before) (by i) x a (omega arith) y) right in
         let h₂ = ready-on b h₁ val in
         let name = done-bind (h₂ .at) (l .name) (l .name ∷ st .assigned) (b .flat .inner) (omega (arith, b .room, at .few)) (row-small at here (d .1 .0)) (omega arith)
         (omega (arith, b .room)) right in
@@ -361,45 +361,45 @@ module _ (text : Bytes) (rows : List Row) (num : Bytes → ℕ) where
         (done-then top (done-then val (done-then name (looped-end
         (λ u. rows-end afterRow (walkLine k text s) stop stop u (omega arith))
         (looped-to (omega arith) refl
-        (stmts bd k (suc r + lenE e) (suc n + lenE e) j stop b (omega arith) (omega arith) (omega arith) m (omega arith) c
-        (here-past (sized-e e) (rowsSs bd) (here-tail here)) (d .1 .1 .1) (ready-on b h₂ name) (λ i. for-body c l e bd z (by i))))))))
-    stmt (def l bd) k r n j {s = s} b {st} q f m z c here d h by =
-        def-done b k l bd r here d m h (λ i x a u y. named-still c (by i) x a u (omega arith))
+        (stmts bd k (suc r + lenE e) (suc n + lenE e) j stop b (omega arith) (f .inside)
+        (here-past (sized-e e) (rowsSs bd) (here-tail here)) (d .1 .1 .1) (ready-on b h₂ name) (λ i. for-body (f .early) l e bd (f .before) (by i))))))))
+    stmt (def l bd) k r n j {s = s} b {st} f here d h by =
+        def-done b k l bd r here d (f .inside) h (λ i x a u y. named-still (f .early) (by i) x a u (omega arith))
         (λ u h. looped-to (omega arith) refl
-        (stmts bd k (suc r) (suc n) (r + lenS (def l bd)) (r + lenS (def l bd)) (def-block b k l bd r here d m) (omega arith) (omega arith) (omega arith) (omega arith) (omega arith) (omega arith)
+        (stmts bd k (suc r) (suc n) (r + lenS (def l bd)) (r + lenS (def l bd)) (def-block b k l bd r here d (f .inside)) (omega arith) (omega arith)
         (here-tail here) (d .1 .1 .1) h (λ _. def-body l bd r (r + lenS (def l bd)))))
-    stmt (class l ms ats) k r n j b q f m z c here d h by =
-        class-done b k l ms ats r here d m h (λ i x a u y. named-still c (by i) x a u (omega arith))
-        (λ u i h. methods ms k (suc r) (suc n) (r + lenS (class l ms ats)) l b (omega arith) (omega arith) (omega arith) m i (here-left (rowsMs ms) (rowsAs ats) (here-tail here)) (d .1 .1 .0) h)
+    stmt (class l ms ats) k r n j b f here d h by =
+        class-done b k l ms ats r here d (f .inside) h (λ i x a u y. named-still (f .early) (by i) x a u (omega arith))
+        (λ u i h. methods ms k (suc r) (suc n) j (r + lenS (class l ms ats)) l b (omega arith) (f .inside) i (here-left (rowsMs ms) (rowsAs ats) (here-tail here)) (d .1 .1 .0) h)
 
-    pub stmts : (ts : Stmts) (k r n j stop : ℕ) {ns : List Note} {s : ScopeStack} {v : Env} (b : Block rows ns s v) {st : State} {seen : List Fault} {w : List ℕ} → n ≡ suc (suc r)
-        → lenSs ts ≤ k → r + lenSs ts ≤ stop → stop ≤ s .end → r + lenSs ts ≤ j → j < never → Here rows r (rowsSs ts) → WordedSs ts → Ready text num b st seen w r
+    pub stmts : (ts : Stmts) (k r n j stop : ℕ) {ns : List Note} {s : ScopeStack} {v : Env} (b : Block rows ns s v) {st : State} {seen : List Fault} {w : List ℕ}
+        → Spans (lenSs ts) k r n stop j → stop ≤ s .end → Here rows r (rowsSs ts) → WordedSs ts → Ready text num b st seen w r
         → (v .home ≡ inDef → Assigns ns (st .assigned) (notesSs ts r) r j)
         → Looped text rows num ns s v (kids text k s stop) st (afterSs ts st) seen (rawSs ts n [] v st) w r (r + lenSs ts)
-    stmts snil k r n j stop {s = s} b {st} {w = w} q f l m z c here d h by =
+    stmts snil k r n j stop {s = s} b {st} {w = w} f m here d h by =
         let e : r ≡ r + 0 = omega arith in
         looped-one (ap (λ i. kids text k s stop i w) e)
         (done-skip (h .at) (st .assigned) (omega arith) (omega (arith, b .room)) (λ i x. none-still (by i) x (r + 0) (omega arith) (omega arith)))
-    stmts (scons t ts) k r n j stop {ns} {s} {v} b {st} {seen} {w} q f l m z c here d h by =
+    stmts (scons t ts) k r n j stop {ns} {s} {v} b {st} {seen} {w} f m here d h by =
         let some : 0 < lenS t = some-stmt t in
         let less : suc (k - 1) ≡ k = omega arith in
         let first : Done text rows num ns s v st (afterS t st) seen (rawS t n [] v st) w (walkStmt k text s r w) r (r + lenS t) =
         subst (λ i. Done text rows num ns s v st (afterS t st) seen (rawS t n [] v st) w (walkStmt i text s r w) r (r + lenS t)) less
-        (stmt t (k - 1) r n (r + lenS t) b q (omega arith) (omega arith) (omega arith) (omega arith) (here-left (rowsS t) (rowsSs ts) here) (d .0) h (λ i. stmts-first c t ts z (by i))) in
+        (stmt t (k - 1) r n (r + lenS t) b (omega arith) (here-left (rowsS t) (rowsSs ts) here) (d .0) h (λ i. stmts-first (f .early) t ts (f .before) (by i))) in
         looped-to (omega arith) refl (looped-then
         (line-stmt text k s stop r w (omega arith) (r + lenS t) (after-S (h .at .row .table) t (here-left (rowsS t) (rowsSs ts) here)) (stmt-kind (h .at .row .table) t (here-left (rowsS t) (rowsSs ts) here) (d .0)))
         first
-        (stmts ts k (r + lenS t) (n + lenS t) j stop b (omega arith) (omega arith) (omega arith) m (omega arith) c (here-past (sized-s t) (rowsSs ts) here) (d .1)
-        (ready-on b h first) (λ i. stmts-rest c t ts st z (by i))))
+        (stmts ts k (r + lenS t) (n + lenS t) j stop b (omega arith) m (here-past (sized-s t) (rowsSs ts) here) (d .1)
+        (ready-on b h first) (λ i. stmts-rest (f .early) t ts st (f .before) (by i))))
 
-    methods : (ms : Methods) (k r n stop : ℕ) (c : Line) {ns : List Note} {s : ScopeStack} {v : Env} (b : Block rows ns s v) {st : State} {seen : List Fault} {w : List ℕ} → n ≡ suc (suc r)
-        → lenMs ms ≤ k → r + lenMs ms ≤ stop → stop ≤ s .end → v .home ≡ inModule → Here rows r (rowsMs ms) → WordedMs ms → Ready text num b st seen w r
+    methods : (ms : Methods) (k r n j stop : ℕ) (c : Line) {ns : List Note} {s : ScopeStack} {v : Env} (b : Block rows ns s v) {st : State} {seen : List Fault} {w : List ℕ}
+        → Spans (lenMs ms) k r n stop j → stop ≤ s .end → v .home ≡ inModule → Here rows r (rowsMs ms) → WordedMs ms → Ready text num b st seen w r
         → Looped text rows num ns s v (kids text k s stop) st st seen (rawMs ms n c st) w r (r + lenMs ms)
-    methods mnil k r n stop c {s = s} b {st} {w = w} q f l m i here d h =
+    methods mnil k r n j stop c {s = s} b {st} {w = w} f m i here d h =
         let e : r ≡ r + 0 = omega arith in
         looped-one (ap (λ i. kids text k s stop i w) e)
         (done-skip (h .at) (st .assigned) (omega arith) (omega (arith, b .room)) (λ g. absurd (omega (arith, ap homeNumber (sym i ∙ g)))))
-    methods (mcons g bd ms) k r n stop c {ns} {s} {v} b {st} {seen} {w} q f l m i here d h =
+    methods (mcons g bd ms) k r n j stop c {ns} {s} {v} b {st} {seen} {w} f m i here d h =
         let less : suc (k - 1) ≡ k = omega arith in
         let u : r + suc (lenSs bd) ≤ s .end = omega arith in
         let e : r + suc (lenSs bd) + lenMs ms ≡ r + suc (lenSs bd + lenMs ms) = omega arith in
@@ -407,13 +407,13 @@ module _ (text : Bytes) (rows : List Row) (num : Bytes → ℕ) where
         let body : List Fault = rawSs bd (suc n) [] methodEnv (entered (g .params) st) in
         let first : Done text rows num ns s v st st seen (selfFault n g c ++ body) w (walkStmt k text s r w) r (r + suc (lenSs bd)) =
         subst (λ i. Done text rows num ns s v st st seen (selfFault n g c ++ body) w (walkStmt i text s r w) r (r + suc (lenSs bd))) less
-        (method-done b (k - 1) g c bd (rowsSs bd ++ rowsMs ms) r n u q here (d .0) (d .1 .1 .0) i h
+        (method-done b (k - 1) g c bd (rowsSs bd ++ rowsMs ms) r n u (f .line) here (d .0) (d .1 .1 .0) i h
         (λ z h. looped-to a refl
-        (stmts bd (k - 1) (suc r) (suc n) (suc r + lenSs bd) (r + suc (lenSs bd)) (method-block b (k - 1) g bd r u) (omega arith) (omega arith) (omega arith) (omega arith)
-        (omega arith) (omega (arith, b .room, h .at .row .table .few)) (here-left (rowsSs bd) (rowsMs ms) (here-tail here)) (d .1 .1 .1 .0) h (λ y. absurd (omega (arith, ap homeNumber y)))))) in
+        (stmts bd (k - 1) (suc r) (suc n) (suc r + lenSs bd) (r + suc (lenSs bd)) (method-block b (k - 1) g bd r u) (omega arith) (omega arith)
+        (here-left (rowsSs bd) (rowsMs ms) (here-tail here)) (d .1 .1 .1 .0) h (λ y. absurd (omega (arith, ap homeNumber y)))))) in
         looped-to e (append-assoc (selfFault n g c) body (rawMs ms (suc n + lenSs bd) c st))
         (looped-then
         (line-stmt text k s stop r w (omega arith) (r + suc (lenSs bd)) (row-after (h .at .row .table) here) (omega (arith, row-kind (h .at .row .table) here, d .0)))
         first
-        (methods ms k (r + suc (lenSs bd)) (suc n + lenSs bd) stop c b (omega arith) (omega arith) (omega arith) m i
+        (methods ms k (r + suc (lenSs bd)) (suc n + lenSs bd) j stop c b (omega arith) m i
         (subst (λ j. Here rows j (rowsMs ms)) a (here-past (sized-ss bd) (rowsMs ms) (here-tail here))) (d .1 .1 .1 .1) (ready-on b h first)))

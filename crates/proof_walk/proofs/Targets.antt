@@ -31,7 +31,7 @@ use Rattle.proof_walk.proofs.PartRows.{here-tail, here-left, here-past,
 use Rattle.proof_walk.proofs.WordTests.{node-test}
 use Rattle.proof_walk.proofs.Assigned.{Assigns, range-ts, still, end-t, targets-first, targets-rest, tuple-parts, none-still}
 use Rattle.proof_walk.proofs.Exprs.{Flat, exprs-walked}
-use Rattle.proof_walk.proofs.Done.{Right, Done, done-then, done-skip, done-fault, done-bind, done-walked, done-to, Looped, looped-one, looped-then, looped-to}
+use Rattle.proof_walk.proofs.Done.{Right, Done, Spans, done-then, done-skip, done-fault, done-bind, done-walked, done-to, Looped, looped-one, looped-then, looped-to}
 
 -- ---- one row of the loop
 next-on : (w : List ℕ) (i : ℕ) → i < nextTarget w i
@@ -103,48 +103,48 @@ module _ {text : Bytes} {rows : List Row} {num : Bytes → ℕ} {ns : List Note}
 
   mutual
     -- j is a row after the target
-    pub target : (t : Expr) (r n j : ℕ) {st : State} {seen : List Fault} {w : List ℕ} → n ≡ suc (suc r) → lenE t ≤ k → r + lenE t ≤ stop → r + lenE t ≤ j → j < never
+    pub target : (t : Expr) (r n j : ℕ) {st : State} {seen : List Fault} {w : List ℕ} → Spans (lenE t) k r n stop j
         → Here rows r (rowsE t) → WordedE t → At text rows num ns s [] v st seen w r → (v .home ≡ inDef → Assigns ns (st .assigned) (notesT t r) r j)
         → Looped text rows num ns s v (turns text k s stop) st (afterT t st) seen (rawT t n [] v st) w r (r + lenE t)
-    target (var l) r n j {st} {seen} {w} q f m b c here d h by =
+    target (var l) r n j {st} {seen} {w} f here d h by =
         let few = h .row .table .few in
         looped-one
         (turn text k s stop (omega arith) (turn-var (walkExpr k text false s) s r w (row-kind (h .row .table) here ∙ d .0)) (ap (defined s w) (row-number (h .row .table) here (d .1))) (row-after (h .row .table) here))
         (done-bind h (l .name) (l .name ∷ st .assigned) (flat .inner) (omega arith) (row-small (h .row .table) here (d .1)) (omega arith) (omega arith)
-        (λ i. end-t c (var l) st (by i) (r + 1) (omega arith) (omega arith)))
-    target (node l es) r n j q f m b c here d h by =
-        refused l (lenEs es) (rowsEs es) r n q m here (node-test noTarget refl (d .0)) h (λ i x. none-still (by i) x (r + suc (lenEs es)) (omega arith) b)
-    target (access l es) r n j {st} {seen} {w} q f m b c here d h by =
+        (λ i. end-t (f .early) (var l) st (by i) (r + 1) (omega arith) (omega arith)))
+    target (node l es) r n j f here d h by =
+        refused l (lenEs es) (rowsEs es) r n (f .line) (f .inside) here (node-test noTarget refl (d .0)) h (λ i x. none-still (by i) x (r + suc (lenEs es)) (omega arith) (f .before))
+    target (access l es) r n j {st} {seen} {w} f here d h by =
         let e : suc r + lenEs es ≡ r + suc (lenEs es) = omega arith in
         let head : Done text rows num ns s v st st seen [] w w r (suc r) =
         done-skip h (st .assigned) (omega arith) (omega arith) (λ i x. none-still (by i) x (suc r) (omega arith) (omega arith)) in
         looped-one
         (turn text k s stop (omega arith) (turn-access (walkExpr k text false s) s r w (d .0) (row-kind (h .row .table) here))
         (ap₂ (λ i j. rowsTo afterRow (walkExpr k text false s) i j w) (add-one r) (row-after (h .row .table) here ∙ sym e)) (row-after (h .row .table) here))
-        (done-to e (ap (λ i. rawEs es (suc i) [] v st) (sym q)) (done-then head
+        (done-to e (ap (λ i. rawEs es (suc i) [] v st) (sym (f .line))) (done-then head
         (done-walked (st .assigned) refl (λ i x. none-still (by i) x (suc r + lenEs es) (omega arith) (omega arith))
         (exprs-walked k (suc r) es (here-tail here) (d .1) (omega arith) (omega arith) room flat (head .after)
         (λ i x z u y. none-still (by i) x z (omega arith) (omega arith))))))
-    target (tuple l es) r n j {st} {seen} {w} q f m b c here d h by =
+    target (tuple l es) r n j {st} {seen} {w} f here d h by =
         let head : Done text rows num ns s v st st seen [] w w r (suc r) =
-        done-skip h (st .assigned) (omega arith) (omega arith) (λ i x. now-ts es c (tuple-parts c l es (by i)) (omega arith) x) in
+        done-skip h (st .assigned) (omega arith) (omega arith) (λ i x. now-ts es (f .early) (tuple-parts (f .early) l es (by i)) (omega arith) x) in
         looped-to (omega arith) refl (looped-then
         (turn text k s stop (omega arith) (turn-tuple (walkExpr k text false s) s r w (row-kind (h .row .table) here ∙ d .0)) refl (add-one r)) head
-        (targets es (suc r) (suc n) j (omega arith) (omega arith) (omega arith) (omega arith) c (here-tail here) (d .1) (head .after) (λ i. tuple-parts c l es (by i))))
-    target (call l g es) r n j q f m b c here d h by =
-        refused l (lenE g + lenEs es) (rowsE g ++ rowsEs es) r n q m here (ap noTarget (d .0)) h (λ i x. none-still (by i) x (r + suc (lenE g + lenEs es)) (omega arith) b)
-    target (lambda l e) r n j q f m b c here d h by =
-        refused l (lenE e) (rowsE e) r n q m here (ap noTarget (d .0)) h (λ i x. none-still (by i) x (r + suc (lenE e)) (omega arith) b)
+        (targets es (suc r) (suc n) j (omega arith) (here-tail here) (d .1) (head .after) (λ i. tuple-parts (f .early) l es (by i))))
+    target (call l g es) r n j f here d h by =
+        refused l (lenE g + lenEs es) (rowsE g ++ rowsEs es) r n (f .line) (f .inside) here (ap noTarget (d .0)) h (λ i x. none-still (by i) x (r + suc (lenE g + lenEs es)) (omega arith) (f .before))
+    target (lambda l e) r n j f here d h by =
+        refused l (lenE e) (rowsE e) r n (f .line) (f .inside) here (ap noTarget (d .0)) h (λ i x. none-still (by i) x (r + suc (lenE e)) (omega arith) (f .before))
 
-    targets : (es : Exprs) (r n j : ℕ) {st : State} {seen : List Fault} {w : List ℕ} → n ≡ suc (suc r) → lenEs es ≤ k → r + lenEs es ≤ stop → r + lenEs es ≤ j → j < never
+    targets : (es : Exprs) (r n j : ℕ) {st : State} {seen : List Fault} {w : List ℕ} → Spans (lenEs es) k r n stop j
         → Here rows r (rowsEs es) → WordedEs es → At text rows num ns s [] v st seen w r → (v .home ≡ inDef → Assigns ns (st .assigned) (notesTs es r) r j)
         → Looped text rows num ns s v (turns text k s stop) st (afterTs es st) seen (rawTs es n [] v st) w r (r + lenEs es)
-    targets enil r n j {st} {seen} {w} q f m b c here d h by =
+    targets enil r n j {st} {seen} {w} f here d h by =
         let e : r ≡ r + 0 = omega arith in
-        looped-one (ap (λ i. turns text k s stop i w) e) (done-skip h (st .assigned) (omega arith) (omega arith) (λ i x. none-still (by i) x (r + 0) (omega arith) b))
-    targets (econs e es) r n j {st} {seen} {w} q f m b c here d h by =
+        looped-one (ap (λ i. turns text k s stop i w) e) (done-skip h (st .assigned) (omega arith) (omega arith) (λ i x. none-still (by i) x (r + 0) (omega arith) (f .before)))
+    targets (econs e es) r n j {st} {seen} {w} f here d h by =
         let first : Looped text rows num ns s v (turns text k s stop) st (afterT e st) seen (rawT e n [] v st) w r (r + lenE e) =
-        target e r n (r + lenE e) q (omega arith) (omega arith) (omega arith) (omega arith) (here-left (rowsE e) (rowsEs es) here) (d .0) h (λ i. targets-first c e es b (by i)) in
+        target e r n (r + lenE e) (omega arith) (here-left (rowsE e) (rowsEs es) here) (d .0) h (λ i. targets-first (f .early) e es (f .before) (by i)) in
         looped-to (omega arith) refl (looped-then (first .goes) (first .done)
-        (targets es (r + lenE e) (n + lenE e) j (omega arith) (omega arith) (omega arith) (omega arith) c (here-past (sized-e e) (rowsEs es) here) (d .1)
-        (first .done .after) (λ i. targets-rest c e es st b (by i))))
+        (targets es (r + lenE e) (n + lenE e) j (omega arith) (here-past (sized-e e) (rowsEs es) here) (d .1)
+        (first .done .after) (λ i. targets-rest (f .early) e es st (f .before) (by i))))
