@@ -124,6 +124,7 @@ all-there {m = m} (also {a = n} w g) x r l s = ap₂ (λ t u. t && same x (n .na
 
 -- ---- from row i to row m, the notes ns add those of D to the names a
 pub record Assigns (ns : List Note) (a : List Part) (D : List Note) (i m : ℕ) : Type 0 where
+  pub early : m < never
   pub by : (x : Bytes) (r : ℕ) → i ≤ r → r ≤ m → assignedBy ns x r ≡ (mem x a || assignedBy D x r)
 
 module _ {ns : List Note} {a : List Part} {D : List Note} {i m : ℕ} (g : Assigns ns a D i m) where
@@ -133,7 +134,7 @@ module _ {ns : List Note} {a : List Part} {D : List Note} {i m : ℕ} (g : Assig
 
   -- a part of the rows
   pub cut : (j k : ℕ) → i ≤ j → k ≤ m → Assigns ns a D j k
-  cut j k p q = record { by = λ x r s t. g .by x r (omega arith) (omega arith) }
+  cut j k p q = record { early = omega arith; by = λ x r s t. g .by x r (omega arith) (omega arith) }
 
 module _ {ns : List Note} {a : List Part} {i m : ℕ} (D E : List Note) (g : Assigns ns a (D ++ E) i m) where
   split : (x : Bytes) (r : ℕ) → i ≤ r → r ≤ m → assignedBy ns x r ≡ (mem x a || assignedBy D x r || assignedBy E x r)
@@ -141,10 +142,11 @@ module _ {ns : List Note} {a : List Part} {i m : ℕ} (D E : List Note) (g : Ass
 
   -- a part up to row j, and one from there on
   first : (j : ℕ) {k : ℕ} → j ≤ m → Range j k E → Assigns ns a D i j
-  first j q c = record { by = λ x r s t. split x r s (omega arith) ∙ ap (λ u. mem x a || assignedBy D x r || u) (not-yet c x r t) ∙ or-false (mem x a || assignedBy D x r) }
+  first j q c = record { early = omega arith; by = λ x r s t. split x r s (omega arith) ∙ ap (λ u. mem x a || assignedBy D x r || u) (not-yet c x r t) ∙ or-false (mem x a || assignedBy D x r) }
 
-  rest : (j : ℕ) {k : ℕ} (a′ : List Part) → i ≤ j → m < never → Range k j D → ((x : Bytes) → mem x a′ ≡ (mem x a || assignedBy D x j)) → Assigns ns a′ E j m
-  rest j a′ p n c e = record {
+  rest : (j : ℕ) {k : ℕ} (a′ : List Part) → i ≤ j → Range k j D → ((x : Bytes) → mem x a′ ≡ (mem x a || assignedBy D x j)) → Assigns ns a′ E j m
+  rest j a′ p c e = record {
+    early = g .early;
     by = λ x r s t.
         split x r (omega arith) t ∙ ap (λ u. mem x a || u || assignedBy E x r) (all-there c x r s (omega arith)) ∙ ap (λ u. u || assignedBy E x r) (sym (e x));
   }
@@ -206,10 +208,10 @@ module _ (x : Bytes) where
         (after-ss ss (i + lenS s) m (afterS s st) (omega arith) q)
 
 -- ---- a part and its parts, in rows up to m
-module _ {ns : List Note} {i m : ℕ} (n : m < never) where
+module _ {ns : List Note} {i m : ℕ} where
   -- at its first row, and at a row after it
   pub now-ss : (ss : Stmts) {a : List Part} → Assigns ns a (notesSs ss i) i m → i + lenSs ss ≤ m → (x : Bytes) → mem x a ≡ assignedBy ns x i
-  now-ss ss g p x = still g (range-ss ss i i m (omega arith) p n) x i (omega arith) (omega arith) (omega arith)
+  now-ss ss g p x = still g (range-ss ss i i m (omega arith) p (g .early)) x i (omega arith) (omega arith) (omega arith)
 
   pub end-t : (t : Expr) (st : State) → Assigns ns (st .assigned) (notesT t i) i m → (r : ℕ) → i + lenE t ≤ r → r ≤ m → (x : Bytes) → mem x (afterT t st .assigned) ≡ assignedBy ns x r
   end-t t st g r p q x = after-t x t i r st p ∙ sym (g .by x r (omega arith) q)
@@ -217,12 +219,12 @@ module _ {ns : List Note} {i m : ℕ} (n : m < never) where
   -- a statement, and those after it
   pub stmts-first : (s : Stmt) (ss : Stmts) {a : List Part} → i + lenSs (scons s ss) ≤ m → Assigns ns a (notesSs (scons s ss) i) i m → Assigns ns a (notesS s i) i (i + lenS s)
   stmts-first s ss p g =
-      first (notesS s i) (notesSs ss (i + lenS s)) g (i + lenS s) (omega arith) (range-ss ss (i + lenS s) (i + lenS s) m (omega arith) (omega arith) n)
+      first (notesS s i) (notesSs ss (i + lenS s)) g (i + lenS s) (omega arith) (range-ss ss (i + lenS s) (i + lenS s) m (omega arith) (omega arith) (g .early))
 
   pub stmts-rest : (s : Stmt) (ss : Stmts) (st : State) → i + lenSs (scons s ss) ≤ m → Assigns ns (st .assigned) (notesSs (scons s ss) i) i m
       → Assigns ns (afterS s st .assigned) (notesSs ss (i + lenS s)) (i + lenS s) m
   stmts-rest s ss st p g =
-      rest (notesS s i) (notesSs ss (i + lenS s)) g (i + lenS s) (afterS s st .assigned) (omega arith) n (range-s s i i (i + lenS s) (omega arith) (omega arith) (omega arith))
+      rest (notesS s i) (notesSs ss (i + lenS s)) g (i + lenS s) (afterS s st .assigned) (omega arith) (range-s s i i (i + lenS s) (omega arith) (omega arith) (omega arith))
       (λ x. after-s x s i (i + lenS s) st (omega arith) (omega arith))
 
   pub targets-first : (e : Expr) (es : Exprs) {a : List Part} → i + lenEs (econs e es) ≤ m → Assigns ns a (notesTs (econs e es) i) i m → Assigns ns a (notesT e i) i (i + lenE e)
@@ -232,7 +234,7 @@ module _ {ns : List Note} {i m : ℕ} (n : m < never) where
   pub targets-rest : (e : Expr) (es : Exprs) (st : State) → i + lenEs (econs e es) ≤ m → Assigns ns (st .assigned) (notesTs (econs e es) i) i m
       → Assigns ns (afterT e st .assigned) (notesTs es (i + lenE e)) (i + lenE e) m
   targets-rest e es st p g =
-      rest (notesT e i) (notesTs es (i + lenE e)) g (i + lenE e) (afterT e st .assigned) (omega arith) n (range-t e i i (i + lenE e) (omega arith) (omega arith))
+      rest (notesT e i) (notesTs es (i + lenE e)) g (i + lenE e) (afterT e st .assigned) (omega arith) (range-t e i i (i + lenE e) (omega arith) (omega arith))
       (λ x. after-t x e i (i + lenE e) st (omega arith))
 
   pub tuple-parts : (l : Line) (es : Exprs) {a : List Part} → Assigns ns a (notesT (tuple l es) i) i m → Assigns ns a (notesTs es (suc i)) (suc i) m
@@ -248,7 +250,7 @@ module _ {ns : List Note} {i m : ℕ} (n : m < never) where
 
   module _ (l : Line) (c : Expr) (b : Stmts) {a : List Part} (p : i + lenS (block l c b) ≤ m) (g : Assigns ns a (notesS (block l c b) i) i m) where
     pub block-still : (x : Bytes) (r : ℕ) → i ≤ r → r ≤ suc i + lenE c → mem x a ≡ assignedBy ns x r
-    block-still x r s u = still g (range-ss b (suc i + lenE c) (suc i + lenE c) m (omega arith) (omega arith) n) x r s (omega arith) u
+    block-still x r s u = still g (range-ss b (suc i + lenE c) (suc i + lenE c) m (omega arith) (omega arith) (g .early)) x r s (omega arith) u
 
     pub block-body : Assigns ns a (notesSs b (suc i + lenE c)) (suc i + lenE c) m
     block-body = cut g (suc i + lenE c) m (omega arith) (omega arith)
@@ -256,11 +258,11 @@ module _ {ns : List Note} {i m : ℕ} (n : m < never) where
   module _ (l : Line) (c : Expr) (b k e : Stmts) (st : State) (p : i + lenS (choice l c b k e) ≤ m) (g : Assigns ns (st .assigned) (notesS (choice l c b k e) i) i m) where
     rest-range : (j : ℕ) → j ≤ suc i + lenE c + lenSs b → Range j m (notesSs k (suc i + lenE c + lenSs b) ++ notesSs e (suc i + lenE c + lenSs b + lenSs k))
     rest-range j q =
-        all-append (range-ss k j (suc i + lenE c + lenSs b) m q (omega arith) n) (range-ss e j (suc i + lenE c + lenSs b + lenSs k) m (omega arith) (omega arith) n)
+        all-append (range-ss k j (suc i + lenE c + lenSs b) m q (omega arith) (g .early)) (range-ss e j (suc i + lenE c + lenSs b + lenSs k) m (omega arith) (omega arith) (g .early))
 
     pub choice-still : (x : Bytes) (r : ℕ) → i ≤ r → r ≤ suc i + lenE c → mem x (st .assigned) ≡ assignedBy ns x r
     choice-still x r s u =
-        still g (all-append (range-ss b (suc i + lenE c) (suc i + lenE c) m (omega arith) (omega arith) n) (rest-range (suc i + lenE c) (omega arith))) x r s (omega arith) u
+        still g (all-append (range-ss b (suc i + lenE c) (suc i + lenE c) m (omega arith) (omega arith) (g .early)) (rest-range (suc i + lenE c) (omega arith))) x r s (omega arith) u
 
     pub choice-body : Assigns ns (st .assigned) (notesSs b (suc i + lenE c)) (suc i + lenE c) (suc i + lenE c + lenSs b)
     choice-body =
@@ -270,36 +272,36 @@ module _ {ns : List Note} {i m : ℕ} (n : m < never) where
     choice-rest : Assigns ns (afterSs b st .assigned) (notesSs k (suc i + lenE c + lenSs b) ++ notesSs e (suc i + lenE c + lenSs b + lenSs k)) (suc i + lenE c + lenSs b) m
     choice-rest =
         rest (notesSs b (suc i + lenE c)) (notesSs k (suc i + lenE c + lenSs b) ++ notesSs e (suc i + lenE c + lenSs b + lenSs k)) g (suc i + lenE c + lenSs b) (afterSs b st .assigned)
-        (omega arith) n (range-ss b i (suc i + lenE c) (suc i + lenE c + lenSs b) (omega arith) (omega arith) (omega arith))
+        (omega arith) (range-ss b i (suc i + lenE c) (suc i + lenE c + lenSs b) (omega arith) (omega arith) (omega arith))
         (λ x. after-ss x b (suc i + lenE c) (suc i + lenE c + lenSs b) st (omega arith) (omega arith))
 
     pub choice-elifs : Assigns ns (afterSs b st .assigned) (notesSs k (suc i + lenE c + lenSs b)) (suc i + lenE c + lenSs b) (suc i + lenE c + lenSs b + lenSs k)
     choice-elifs =
         first (notesSs k (suc i + lenE c + lenSs b)) (notesSs e (suc i + lenE c + lenSs b + lenSs k)) choice-rest (suc i + lenE c + lenSs b + lenSs k) (omega arith)
-        (range-ss e (suc i + lenE c + lenSs b + lenSs k) (suc i + lenE c + lenSs b + lenSs k) m (omega arith) (omega arith) n)
+        (range-ss e (suc i + lenE c + lenSs b + lenSs k) (suc i + lenE c + lenSs b + lenSs k) m (omega arith) (omega arith) (g .early))
 
     pub choice-else : Assigns ns (afterSs k (afterSs b st) .assigned) (notesSs e (suc i + lenE c + lenSs b + lenSs k)) (suc i + lenE c + lenSs b + lenSs k) m
     choice-else =
         rest (notesSs k (suc i + lenE c + lenSs b)) (notesSs e (suc i + lenE c + lenSs b + lenSs k)) choice-rest (suc i + lenE c + lenSs b + lenSs k) (afterSs k (afterSs b st) .assigned)
-        (omega arith) n (range-ss k i (suc i + lenE c + lenSs b) (suc i + lenE c + lenSs b + lenSs k) (omega arith) (omega arith) (omega arith))
+        (omega arith) (range-ss k i (suc i + lenE c + lenSs b) (suc i + lenE c + lenSs b + lenSs k) (omega arith) (omega arith) (omega arith))
         (λ x. after-ss x k (suc i + lenE c + lenSs b) (suc i + lenE c + lenSs b + lenSs k) (afterSs b st) (omega arith) (omega arith))
 
   -- the name of a `for` is assigned at the row after its expression
   module _ (l : Line) (e : Expr) (b : Stmts) {a : List Part} (p : i + lenS (for l e b) ≤ m) (g : Assigns ns a (notesS (for l e b) i) i m) where
     pub for-still : (x : Bytes) (r : ℕ) → i ≤ r → r < suc i + lenE e → mem x a ≡ assignedBy ns x r
     for-still x r s u =
-        still g (also (counts (suc i + lenE e) (l .name) u (omega arith)) (range-ss b r (suc i + lenE e) m (omega arith) (omega arith) n)) x r s (omega arith) (omega arith)
+        still g (also (counts (suc i + lenE e) (l .name) u (omega arith)) (range-ss b r (suc i + lenE e) m (omega arith) (omega arith) (g .early))) x r s (omega arith) (omega arith)
 
     pub for-body : Assigns ns (l .name ∷ a) (notesSs b (suc i + lenE e)) (suc i + lenE e) m
-    for-body = record { by = λ x r s u. g .by x r (omega arith) u ∙ sym (after-name x (l .name) a (notesSs b (suc i + lenE e)) (suc i + lenE e) r s) }
+    for-body = record { early = g .early; by = λ x r s u. g .by x r (omega arith) u ∙ sym (after-name x (l .name) a (notesSs b (suc i + lenE e)) (suc i + lenE e) r s) }
 
 -- where a part has no notes
 pub none-still : {ns : List Note} {a : List Part} {i m : ℕ} → Assigns ns a [] i m → (x : Bytes) (r : ℕ) → i ≤ r → r ≤ m → mem x a ≡ assignedBy ns x r
 none-still {a = a} g x r p q = sym (g .by x r p q ∙ or-false (mem x a))
 
 -- ---- a def at row i: in its body, its parameters are assigned
-pub def-body : (l : Line) (b : Stmts) (i m : ℕ) → Assigns (notesD l b i) (l .params) (notesSs b (suc i)) (suc i) m
-def-body l b i m = record { by = λ x r p q. any-append _ (map (note (suc i)) (l .params)) (notesSs b (suc i)) ∙ ap (λ t. t || assignedBy (notesSs b (suc i)) x r) (go x r p (l .params)) }
+pub def-body : (l : Line) (b : Stmts) (i m : ℕ) → m < never → Assigns (notesD l b i) (l .params) (notesSs b (suc i)) (suc i) m
+def-body l b i m e = record { early = e; by = λ x r p q. any-append _ (map (note (suc i)) (l .params)) (notesSs b (suc i)) ∙ ap (λ t. t || assignedBy (notesSs b (suc i)) x r) (go x r p (l .params)) }
   where
     go : (x : Bytes) (r : ℕ) → suc i ≤ r → (ps : List Part) → assignedBy (map (note (suc i)) ps) x r ≡ mem x ps
     go x r p [] = refl

@@ -13,7 +13,7 @@ use Rattle.spec_faults.specs.Faults.{Fault, capture}
 use Rattle.spec_faults.proofs.ListingWalk.{State, Env}
 use Rattle.spec_faults.proofs.Deduped.{dedupe, seenAfter, seen-append, dedupe-append}
 use Rattle.work_rows.specs.Rows.{Row}
-use Rattle.work_marks.specs.MarksModel.{lambdaEnd, blockEnd, slotAt, stampAt, putSlot, raisedBlock, never}
+use Rattle.work_marks.specs.MarksModel.{lambdaEnd, blockEnd, slotAt, stampAt, putSlot, raisedBlock}
 use Rattle.work_marks.proofs.Writes.{Words, Kept, kept-refl, kept-trans, slot-same, slot-other, slot-lambda, slot-block, slot-stamp, kept-slot, words-slot, raised-block-same, raised-block-other, raised-block-lambda, raised-block-slot, raised-block-stamp, kept-raised-block, words-raised-block}
 use Rattle.walk_scopes.specs.ScopesModel.{defined}
 use Rattle.walk_scopes.specs.declared.ScopeStack.{ScopeStack}
@@ -93,13 +93,12 @@ pub record Done (text : Bytes) (rows : List Row) (num : Bytes → ℕ) (ns : Lis
   pub slots : slotsFrom w′ r (e - r) ≡ keys (dedupe seen fs)
   pub change : Change num s r e w w′
 
--- a part of the text from row r on, whose line is n: the walk has the depth k for it, and it ends at the rows stop and j at most
+-- a part of the text from row r on, whose line is n: the walk has the depth k for it, and it ends at the rows stop and j or before
 pub record Spans (size k r n stop j : ℕ) : Type 0 where
   pub line : n ≡ suc (suc r)
   pub depth : size ≤ k
   pub inside : r + size ≤ stop
   pub before : r + size ≤ j
-  pub early : j < never
 
 -- a loop comes from row r to row e
 pub record Looped (text : Bytes) (rows : List Row) (num : Bytes → ℕ) (ns : List Note) (s : ScopeStack) (v : Env) (loop : ℕ → List ℕ → List ℕ) (st st′ : State) (seen fs : List Fault) (w : List ℕ)

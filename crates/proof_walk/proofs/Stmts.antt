@@ -41,8 +41,8 @@ use Rattle.proof_walk.proofs.Nested.{reopened-at, Entry, entry-def, ent
 use Rattle.proof_walk.proofs.ByKind.{some-stmt, stmt-kind, plain, kids, at-plain, at-assign, at-for, at-def, at-class, at-method, at-attr, line-stmt, line-expr}
 
 -- a name that a def or a class has is not assigned by that
-named-still : {ns : List Note} {a : List Part} {y : Part} {i j : ℕ} → j < never → Assigns ns a (note never y ∷ []) i j → (x : Bytes) (r : ℕ) → i ≤ r → r ≤ j → mem x a ≡ assignedBy ns x r
-named-still {a = a} {y = y} c g x r l m =
+named-still : {ns : List Note} {a : List Part} {y : Part} {i j : ℕ} → Assigns ns a (note never y ∷ []) i j → (x : Bytes) (r : ℕ) → i ≤ r → r ≤ j → mem x a ≡ assignedBy ns x r
+named-still {a = a} {y = y} g x r l m =
     sym (g .by x r l m ∙ ap (λ t. mem x a || (t && same x (y .bytes) || false)) (lt-leb never r (omega arith)) ∙ or-false (mem x a))
 
 module _ (text : Bytes) (rows : List Row) (num : Bytes → ℕ) where
@@ -175,7 +175,7 @@ module _ (text : Bytes) (rows : List Row) (num : Bytes → ℕ) where
         ready : Ready text num inner (entered (l .params) (naming (l .name) st)) seen w₂ (suc r)
         ready = record {
           at = enter b (notesD l bd r) (defEnv l bd) aDef p q m refl refl (λ _. o .stamped (fair-new low)) (λ _ x. sym (locals x l bd r)) (λ no. absurd (no refl))
-              (λ _. now-ss (omega (arith, b .room, at .few)) bd (def-body l bd r stop) (omega arith));
+              (λ _. now-ss bd (def-body l bd r stop (omega (arith, b .room, at .few))) (omega arith));
           past = λ _. omega arith;
           viewed = λ _ x i. q .bound x i;
         }
@@ -311,11 +311,11 @@ module _ (text : Bytes) (rows : List Row) (num : Bytes → ℕ) where
     stmt (assign l e t) k r n j {ns} {s} {v} b {st} {seen} {w} f here d h by =
         let stop : ℕ = r + suc (lenE e + lenE t) in
         let at : Table text rows num w = h .at .row .table in
-        let top = head b k h (omega arith) (λ i x. assign-still (f .early) l e t (f .before) (by i) x (suc r) (omega arith) (omega arith)) in
+        let top = head b k h (omega arith) (λ i x. assign-still l e t (f .before) (by i) x (suc r) (omega arith) (omega arith)) in
         let h₁ = ready-on b h top in
         let left : Here rows (suc r) (rowsE e) = here-left (rowsE e) (rowsE t) (here-tail here) in
         let val = expr-done b k e (suc r) (suc n) j (st .assigned) (omega arith) left (d .1 .0) h₁
-        (λ i x a u y. assign-still (f .early) l e t (f .before) (by i) x a (omega arith) (omega arith)) (λ i x. assign-still (f .early) l e t (f .before) (by i) x (suc r + lenE e) (omega arith) (omega arith)) in
+        (λ i x a u y. assign-still l e t (f .before) (by i) x a (omega arith) (omega arith)) (λ i x. assign-still l e t (f .before) (by i) x (suc r + lenE e) (omega arith) (omega arith)) in
         let h₂ = ready-on b h₁ val in
         subst (λ u. Done text rows num ns s v st (afterT t st) seen (rawE e (suc n) value [] v st ++ rawT t (suc n + lenE e) [] v st) w u r stop)
         (sym (at-assign text k s r w (row-few at here) stop (row-after at here) (row-kind at here ∙ d .0) (suc r + lenE e) (after-E at e left)))
@@ -323,36 +323,36 @@ module _ (text : Bytes) (rows : List Row) (num : Bytes → ℕ) where
         (λ u. rows-end nextTarget (targetAt (walkExpr k text false s) s) stop stop u (omega arith))
         (looped-to (omega arith) refl
         (target (b .flat) (b .room) k stop (f .inside) t (suc r + lenE e) (suc n + lenE e) j (omega arith)
-        (here-past (sized-e e) (rowsE t) (here-tail here)) (d .1 .1) (h₂ .at) (λ i. assign-target (f .early) l e t (f .before) (by i)))))))
+        (here-past (sized-e e) (rowsE t) (here-tail here)) (d .1 .1) (h₂ .at) (λ i. assign-target l e t (f .before) (by i)))))))
     stmt (block l e bd) k r n j b {st} f here d h by =
-        test-done b k l e (lenE e + lenSs bd) (rowsSs bd) r n j (block-test plain refl (d .0)) f (omega arith) here (d .1 .0) h (λ i. block-still (f .early) l e bd (f .before) (by i))
+        test-done b k l e (lenE e + lenSs bd) (rowsSs bd) r n j (block-test plain refl (d .0)) f (omega arith) here (d .1 .0) h (λ i. block-still l e bd (f .before) (by i))
         (λ u h. looped-to (omega arith) refl
         (stmts bd k (suc r + lenE e) (suc n + lenE e) j (r + suc (lenE e + lenSs bd)) b (omega arith) (f .inside)
-        (here-past (sized-e e) (rowsSs bd) (here-tail here)) (d .1 .1) h (λ i. block-body (f .early) l e bd (f .before) (by i))))
+        (here-past (sized-e e) (rowsSs bd) (here-tail here)) (d .1 .1) h (λ i. block-body l e bd (f .before) (by i))))
     stmt (choice l e bd ks es) k r n j {ns} {s} {v} b {st} f here d h by =
         let below : ℕ = lenE e + (lenSs bd + (lenSs ks + lenSs es)) in
         let rest : Here rows (suc r + lenE e) (rowsSs bd ++ (rowsSs ks ++ rowsSs es)) = here-past (sized-e e) (rowsSs bd ++ (rowsSs ks ++ rowsSs es)) (here-tail here) in
         let last : Here rows (suc r + lenE e + lenSs bd) (rowsSs ks ++ rowsSs es) = here-past (sized-ss bd) (rowsSs ks ++ rowsSs es) rest in
         test-done b k l e below (rowsSs bd ++ (rowsSs ks ++ rowsSs es)) r n j (ap plain (d .0)) f (omega arith) here (d .1 .0) h
-        (λ i. choice-still (f .early) l e bd ks es st (f .before) (by i))
+        (λ i. choice-still l e bd ks es st (f .before) (by i))
         (λ u h.
         let one = stmts bd k (suc r + lenE e) (suc n + lenE e) (suc r + lenE e + lenSs bd) (r + suc below) b (omega arith) (f .inside)
-        (here-left (rowsSs bd) (rowsSs ks ++ rowsSs es) rest) (d .1 .1 .0) h (λ i. choice-body (f .early) l e bd ks es st (f .before) (by i)) in
+        (here-left (rowsSs bd) (rowsSs ks ++ rowsSs es) rest) (d .1 .1 .0) h (λ i. choice-body l e bd ks es st (f .before) (by i)) in
         let h₁ = ready-on b h (one .done) in
         let two = stmts ks k (suc r + lenE e + lenSs bd) (suc n + lenE e + lenSs bd) (suc r + lenE e + lenSs bd + lenSs ks) (r + suc below) b (omega arith) (f .inside)
-        (here-left (rowsSs ks) (rowsSs es) last) (d .1 .1 .1 .0) h₁ (λ i. choice-elifs (f .early) l e bd ks es st (f .before) (by i)) in
+        (here-left (rowsSs ks) (rowsSs es) last) (d .1 .1 .1 .0) h₁ (λ i. choice-elifs l e bd ks es st (f .before) (by i)) in
         looped-to (omega arith) refl (looped-then (one .goes) (one .done) (looped-then (two .goes) (two .done)
         (stmts es k (suc r + lenE e + lenSs bd + lenSs ks) (suc n + lenE e + lenSs bd + lenSs ks) j (r + suc below) b (omega arith) (f .inside)
-        (here-past (sized-ss ks) (rowsSs es) last) (d .1 .1 .1 .1) (ready-on b h₁ (two .done)) (λ i. choice-else (f .early) l e bd ks es st (f .before) (by i))))))
+        (here-past (sized-ss ks) (rowsSs es) last) (d .1 .1 .1 .1) (ready-on b h₁ (two .done)) (λ i. choice-else l e bd ks es st (f .before) (by i))))))
     stmt (for l e bd) k r n j {ns} {s} {v} b {st} {seen} {w} f here d h by =
         let stop : ℕ = r + suc (lenE e + lenSs bd) in
         let at : Table text rows num w = h .at .row .table in
-        let top = head b k h (omega arith) (λ i x. for-still (f .early) l e bd (f .before) (by i) x (suc r) (omega arith) (omega arith)) in
+        let top = head b k h (omega arith) (λ i x. for-still l e bd (f .before) (by i) x (suc r) (omega arith) (omega arith)) in
         let h₁ = ready-on b h top in
         let left : Here rows (suc r) (rowsE e) = here-left (rowsE e) (rowsSs bd) (here-tail here) in
-        let right : Right ns v (l .name ∷ st .assigned) (suc r + lenE e) = λ i. now-ss (f .early) bd (for-body (f .early) l e bd (f .before) (by i)) (omega arith) in
+        let right : Right ns v (l .name ∷ st .assigned) (suc r + lenE e) = λ i. now-ss bd (for-body l e bd (f .before) (by i)) (omega arith) in
         let val = expr-done b k e (suc r) (suc n) j (l .name ∷ st .assigned) (omega arith) left (d .1 .1 .0) h₁
-        (λ i x a u y. for-still (f .early) l e bd (f .before) (by i) x a (omega arith) y) right in
+        (λ i x a u y. for-still l e bd (f .before) (by i) x a (omega arith) y) right in
         let h₂ = ready-on b h₁ val in
         let name = done-bind (h₂ .at) (l .name) (l .name ∷ st .assigned) (b .flat .inner) (omega (arith, b .room, at .few)) (row-small at here (d .1 .0)) (omega arith)
         (omega (arith, b .room)) right in
@@ -362,14 +362,14 @@ module _ (text : Bytes) (rows : List Row) (num : Bytes → ℕ) where
         (λ u. rows-end afterRow (walkLine k text s) stop stop u (omega arith))
         (looped-to (omega arith) refl
         (stmts bd k (suc r + lenE e) (suc n + lenE e) j stop b (omega arith) (f .inside)
-        (here-past (sized-e e) (rowsSs bd) (here-tail here)) (d .1 .1 .1) (ready-on b h₂ name) (λ i. for-body (f .early) l e bd (f .before) (by i))))))))
+        (here-past (sized-e e) (rowsSs bd) (here-tail here)) (d .1 .1 .1) (ready-on b h₂ name) (λ i. for-body l e bd (f .before) (by i))))))))
     stmt (def l bd) k r n j {s = s} b {st} f here d h by =
-        def-done b k l bd r here d (f .inside) h (λ i x a u y. named-still (f .early) (by i) x a u (omega arith))
+        def-done b k l bd r here d (f .inside) h (λ i x a u y. named-still (by i) x a u (omega arith))
         (λ u h. looped-to (omega arith) refl
         (stmts bd k (suc r) (suc n) (r + lenS (def l bd)) (r + lenS (def l bd)) (def-block b k l bd r here d (f .inside)) (omega arith) (omega arith)
-        (here-tail here) (d .1 .1 .1) h (λ _. def-body l bd r (r + lenS (def l bd)))))
+        (here-tail here) (d .1 .1 .1) h (λ _. def-body l bd r (r + lenS (def l bd)) (omega (arith, b .room, h .at .row .table .few)))))
     stmt (class l ms ats) k r n j b f here d h by =
-        class-done b k l ms ats r here d (f .inside) h (λ i x a u y. named-still (f .early) (by i) x a u (omega arith))
+        class-done b k l ms ats r here d (f .inside) h (λ i x a u y. named-still (by i) x a u (omega arith))
         (λ u i h. methods ms k (suc r) (suc n) j (r + lenS (class l ms ats)) l b (omega arith) (f .inside) i (here-left (rowsMs ms) (rowsAs ats) (here-tail here)) (d .1 .1 .0) h)
 
     pub stmts : (ts : Stmts) (k r n j stop : ℕ) {ns : List Note} {s : ScopeStack} {v : Env} (b : Block rows ns s v) {st : State} {seen : List Fault} {w : List ℕ}
@@ -385,12 +385,12 @@ module _ (text : Bytes) (rows : List Row) (num : Bytes → ℕ) where
         let less : suc (k - 1) ≡ k = omega arith in
         let first : Done text rows num ns s v st (afterS t st) seen (rawS t n [] v st) w (walkStmt k text s r w) r (r + lenS t) =
         subst (λ i. Done text rows num ns s v st (afterS t st) seen (rawS t n [] v st) w (walkStmt i text s r w) r (r + lenS t)) less
-        (stmt t (k - 1) r n (r + lenS t) b (omega arith) (here-left (rowsS t) (rowsSs ts) here) (d .0) h (λ i. stmts-first (f .early) t ts (f .before) (by i))) in
+        (stmt t (k - 1) r n (r + lenS t) b (omega arith) (here-left (rowsS t) (rowsSs ts) here) (d .0) h (λ i. stmts-first t ts (f .before) (by i))) in
         looped-to (omega arith) refl (looped-then
         (line-stmt text k s stop r w (omega arith) (r + lenS t) (after-S (h .at .row .table) t (here-left (rowsS t) (rowsSs ts) here)) (stmt-kind (h .at .row .table) t (here-left (rowsS t) (rowsSs ts) here) (d .0)))
         first
         (stmts ts k (r + lenS t) (n + lenS t) j stop b (omega arith) m (here-past (sized-s t) (rowsSs ts) here) (d .1)
-        (ready-on b h first) (λ i. stmts-rest (f .early) t ts st (f .before) (by i))))
+        (ready-on b h first) (λ i. stmts-rest t ts st (f .before) (by i))))
 
     methods : (ms : Methods) (k r n j stop : ℕ) (c : Line) {ns : List Note} {s : ScopeStack} {v : Env} (b : Block rows ns s v) {st : State} {seen : List Fault} {w : List ℕ}
         → Spans (lenMs ms) k r n stop j → stop ≤ s .end → v .home ≡ inModule → Here rows r (rowsMs ms) → WordedMs ms → Ready text num b st seen w r

@@ -17,7 +17,7 @@ use Rattle.spec_faults.proofs.TextWalk.{rawEs, rawT, rawTs}
 use Rattle.work_rows.specs.Layout.{kindAt, numberAt, afterRow}
 use Rattle.work_rows.specs.Rows.{Row, row, rowsE, rowsEs}
 use Rattle.work_rows.proofs.Lengths.{sized-e}
-use Rattle.work_marks.specs.MarksModel.{putSlot, never}
+use Rattle.work_marks.specs.MarksModel.{putSlot}
 use Rattle.work_rows.specs.LoopsModel.{rowsTo}
 use Rattle.work_rows.proofs.Loops.{rows-more}
 use Rattle.walk_scopes.specs.ScopesModel.{defined}
@@ -78,8 +78,8 @@ module _ (value : ℕ → List ℕ → List ℕ) (s : ScopeStack) (i : ℕ) (w :
       go false false false false p q y z n = record { does = rw (p, q, y, z) refl; next = rw q refl }
 
 -- at the first row of targets nothing new is assigned yet
-now-ts : {ns : List Note} {a : List Part} {i j : ℕ} (es : Exprs) → j < never → Assigns ns a (notesTs es i) i j → i + lenEs es ≤ j → (x : Bytes) → mem x a ≡ assignedBy ns x i
-now-ts {i = i} {j = j} es c g p x = still g (range-ts es i i j (omega arith) p) x i (omega arith) (omega arith) (omega arith)
+now-ts : {ns : List Note} {a : List Part} {i j : ℕ} (es : Exprs) → Assigns ns a (notesTs es i) i j → i + lenEs es ≤ j → (x : Bytes) → mem x a ≡ assignedBy ns x i
+now-ts {i = i} {j = j} es g p x = still g (range-ts es i i j (omega arith) p) x i (omega arith) (omega arith) (omega arith)
 
 -- ---- the loop
 abbrev pub turns : Bytes → ℕ → ScopeStack → ℕ → ℕ → List ℕ → List ℕ
@@ -111,7 +111,7 @@ module _ {text : Bytes} {rows : List Row} {num : Bytes → ℕ} {ns : List Note}
         looped-one
         (turn text k s stop (omega arith) (turn-var (walkExpr k text false s) s r w (row-kind (h .row .table) here ∙ d .0)) (ap (defined s w) (row-number (h .row .table) here (d .1))) (row-after (h .row .table) here))
         (done-bind h (l .name) (l .name ∷ st .assigned) (flat .inner) (omega arith) (row-small (h .row .table) here (d .1)) (omega arith) (omega arith)
-        (λ i. end-t (f .early) (var l) st (by i) (r + 1) (omega arith) (omega arith)))
+        (λ i. end-t (var l) st (by i) (r + 1) (omega arith) (omega arith)))
     target (node l es) r n j f here d h by =
         refused l (lenEs es) (rowsEs es) r n (f .line) (f .inside) here (node-test noTarget refl (d .0)) h (λ i x. none-still (by i) x (r + suc (lenEs es)) (omega arith) (f .before))
     target (access l es) r n j {st} {seen} {w} f here d h by =
@@ -127,10 +127,10 @@ module _ {text : Bytes} {rows : List Row} {num : Bytes → ℕ} {ns : List Note}
         (λ i x z u y. none-still (by i) x z (omega arith) (omega arith))))))
     target (tuple l es) r n j {st} {seen} {w} f here d h by =
         let head : Done text rows num ns s v st st seen [] w w r (suc r) =
-        done-skip h (st .assigned) (omega arith) (omega arith) (λ i x. now-ts es (f .early) (tuple-parts (f .early) l es (by i)) (omega arith) x) in
+        done-skip h (st .assigned) (omega arith) (omega arith) (λ i x. now-ts es (tuple-parts l es (by i)) (omega arith) x) in
         looped-to (omega arith) refl (looped-then
         (turn text k s stop (omega arith) (turn-tuple (walkExpr k text false s) s r w (row-kind (h .row .table) here ∙ d .0)) refl (add-one r)) head
-        (targets es (suc r) (suc n) j (omega arith) (here-tail here) (d .1) (head .after) (λ i. tuple-parts (f .early) l es (by i))))
+        (targets es (suc r) (suc n) j (omega arith) (here-tail here) (d .1) (head .after) (λ i. tuple-parts l es (by i))))
     target (call l g es) r n j f here d h by =
         refused l (lenE g + lenEs es) (rowsE g ++ rowsEs es) r n (f .line) (f .inside) here (ap noTarget (d .0)) h (λ i x. none-still (by i) x (r + suc (lenE g + lenEs es)) (omega arith) (f .before))
     target (lambda l e) r n j f here d h by =
@@ -144,7 +144,7 @@ module _ {text : Bytes} {rows : List Row} {num : Bytes → ℕ} {ns : List Note}
         looped-one (ap (λ i. turns text k s stop i w) e) (done-skip h (st .assigned) (omega arith) (omega arith) (λ i x. none-still (by i) x (r + 0) (omega arith) (f .before)))
     targets (econs e es) r n j {st} {seen} {w} f here d h by =
         let first : Looped text rows num ns s v (turns text k s stop) st (afterT e st) seen (rawT e n [] v st) w r (r + lenE e) =
-        target e r n (r + lenE e) (omega arith) (here-left (rowsE e) (rowsEs es) here) (d .0) h (λ i. targets-first (f .early) e es (f .before) (by i)) in
+        target e r n (r + lenE e) (omega arith) (here-left (rowsE e) (rowsEs es) here) (d .0) h (λ i. targets-first e es (f .before) (by i)) in
         looped-to (omega arith) refl (looped-then (first .goes) (first .done)
         (targets es (r + lenE e) (n + lenE e) j (omega arith) (here-past (sized-e e) (rowsEs es) here) (d .1)
-        (first .done .after) (λ i. targets-rest (f .early) e es st (f .before) (by i))))
+        (first .done .after) (λ i. targets-rest e es st (f .before) (by i))))
