@@ -209,13 +209,6 @@ module _ (x : Bytes) where
 
 -- ---- a part and its parts, in rows up to m
 module _ {ns : List Note} {i m : ℕ} where
-  -- at its first row, and at a row after it
-  pub now-ss : (ss : Stmts) {a : List Part} → Assigns ns a (notesSs ss i) i m → i + lenSs ss ≤ m → (x : Bytes) → mem x a ≡ assignedBy ns x i
-  now-ss ss g p x = still g (range-ss ss i i m (omega arith) p (g .early)) x i (omega arith) (omega arith) (omega arith)
-
-  pub end-t : (t : Expr) (st : State) → Assigns ns (st .assigned) (notesT t i) i m → (r : ℕ) → i + lenE t ≤ r → r ≤ m → (x : Bytes) → mem x (afterT t st .assigned) ≡ assignedBy ns x r
-  end-t t st g r p q x = after-t x t i r st p ∙ sym (g .by x r (omega arith) q)
-
   -- a statement, and those after it
   pub stmts-first : (s : Stmt) (ss : Stmts) {a : List Part} → i + lenSs (scons s ss) ≤ m → Assigns ns a (notesSs (scons s ss) i) i m → Assigns ns a (notesS s i) i (i + lenS s)
   stmts-first s ss p g =
@@ -242,15 +235,15 @@ module _ {ns : List Note} {i m : ℕ} where
 
   -- the parts of a statement, and the rows before the first of them
   module _ (l : Line) (e t : Expr) {a : List Part} (p : i + lenS (assign l e t) ≤ m) (g : Assigns ns a (notesS (assign l e t) i) i m) where
-    pub assign-still : (x : Bytes) (r : ℕ) → i ≤ r → r ≤ suc i + lenE e → mem x a ≡ assignedBy ns x r
-    assign-still x r s u = still g (range-t t (suc i + lenE e) (suc i + lenE e) m (omega arith) (omega arith)) x r s (omega arith) u
+    pub assign-still : (x : Bytes) (r : ℕ) → suc i ≤ r → r < suc i + lenE e → mem x a ≡ assignedBy ns x r
+    assign-still x r s u = still g (range-t t (suc i + lenE e) (suc i + lenE e) m (omega arith) (omega arith)) x r (omega arith) (omega arith) (omega arith)
 
     pub assign-target : Assigns ns a (notesT t (suc i + lenE e)) (suc i + lenE e) m
     assign-target = cut g (suc i + lenE e) m (omega arith) (omega arith)
 
   module _ (l : Line) (c : Expr) (b : Stmts) {a : List Part} (p : i + lenS (block l c b) ≤ m) (g : Assigns ns a (notesS (block l c b) i) i m) where
-    pub block-still : (x : Bytes) (r : ℕ) → i ≤ r → r ≤ suc i + lenE c → mem x a ≡ assignedBy ns x r
-    block-still x r s u = still g (range-ss b (suc i + lenE c) (suc i + lenE c) m (omega arith) (omega arith) (g .early)) x r s (omega arith) u
+    pub block-still : (x : Bytes) (r : ℕ) → suc i ≤ r → r < suc i + lenE c → mem x a ≡ assignedBy ns x r
+    block-still x r s u = still g (range-ss b (suc i + lenE c) (suc i + lenE c) m (omega arith) (omega arith) (g .early)) x r (omega arith) (omega arith) (omega arith)
 
     pub block-body : Assigns ns a (notesSs b (suc i + lenE c)) (suc i + lenE c) m
     block-body = cut g (suc i + lenE c) m (omega arith) (omega arith)
@@ -260,9 +253,9 @@ module _ {ns : List Note} {i m : ℕ} where
     rest-range j q =
         all-append (range-ss k j (suc i + lenE c + lenSs b) m q (omega arith) (g .early)) (range-ss e j (suc i + lenE c + lenSs b + lenSs k) m (omega arith) (omega arith) (g .early))
 
-    pub choice-still : (x : Bytes) (r : ℕ) → i ≤ r → r ≤ suc i + lenE c → mem x (st .assigned) ≡ assignedBy ns x r
+    pub choice-still : (x : Bytes) (r : ℕ) → suc i ≤ r → r < suc i + lenE c → mem x (st .assigned) ≡ assignedBy ns x r
     choice-still x r s u =
-        still g (all-append (range-ss b (suc i + lenE c) (suc i + lenE c) m (omega arith) (omega arith) (g .early)) (rest-range (suc i + lenE c) (omega arith))) x r s (omega arith) u
+        still g (all-append (range-ss b (suc i + lenE c) (suc i + lenE c) m (omega arith) (omega arith) (g .early)) (rest-range (suc i + lenE c) (omega arith))) x r (omega arith) (omega arith) (omega arith)
 
     pub choice-body : Assigns ns (st .assigned) (notesSs b (suc i + lenE c)) (suc i + lenE c) (suc i + lenE c + lenSs b)
     choice-body =
@@ -288,9 +281,9 @@ module _ {ns : List Note} {i m : ℕ} where
 
   -- the name of a `for` is assigned at the row after its expression
   module _ (l : Line) (e : Expr) (b : Stmts) {a : List Part} (p : i + lenS (for l e b) ≤ m) (g : Assigns ns a (notesS (for l e b) i) i m) where
-    pub for-still : (x : Bytes) (r : ℕ) → i ≤ r → r < suc i + lenE e → mem x a ≡ assignedBy ns x r
+    pub for-still : (x : Bytes) (r : ℕ) → suc i ≤ r → r < suc i + lenE e → mem x a ≡ assignedBy ns x r
     for-still x r s u =
-        still g (also (counts (suc i + lenE e) (l .name) u (omega arith)) (range-ss b r (suc i + lenE e) m (omega arith) (omega arith) (g .early))) x r s (omega arith) (omega arith)
+        still g (also (counts (suc i + lenE e) (l .name) u (omega arith)) (range-ss b r (suc i + lenE e) m (omega arith) (omega arith) (g .early))) x r (omega arith) (omega arith) (omega arith)
 
     pub for-body : Assigns ns (l .name ∷ a) (notesSs b (suc i + lenE e)) (suc i + lenE e) m
     for-body = record { early = g .early; by = λ x r s u. g .by x r (omega arith) u ∙ sym (after-name x (l .name) a (notesSs b (suc i + lenE e)) (suc i + lenE e) r s) }

@@ -8,9 +8,8 @@ use mathlib.Core.List.{List, [], _∷_, _++_, map-append}
 use lib.ListN.{length}
 use Rattle.spec_text.specs.Bytes.{Bytes, Part, mem, same}
 use Rattle.spec_text.proofs.Lists.{same-eq, same-false}
-use Rattle.spec_faults.specs.Position.{inDef}
 use Rattle.spec_faults.specs.Faults.{Fault, capture}
-use Rattle.spec_faults.proofs.ListingWalk.{State, Env}
+use Rattle.spec_faults.proofs.ListingWalk.{Env}
 use Rattle.spec_faults.proofs.Deduped.{dedupe, seenAfter, seen-append, dedupe-append}
 use Rattle.work_rows.specs.Rows.{Row}
 use Rattle.work_marks.specs.MarksModel.{lambdaEnd, blockEnd, slotAt, stampAt, putSlot, raisedBlock}
@@ -18,12 +17,11 @@ use Rattle.work_marks.proofs.Writes.{Words, Kept, kept-refl, kept-trans, slot-s
 use Rattle.walk_scopes.specs.ScopesModel.{defined}
 use Rattle.walk_scopes.specs.declared.ScopeStack.{ScopeStack}
 use Rattle.walk_scopes.proofs.Define.{defined-block}
-use Rattle.proof_walk.specs.Notes.{Note, assignedBy}
+use Rattle.proof_walk.specs.Notes.{Note}
 use Rattle.proof_walk.specs.Slots.{keyOf, slotsFrom, keys}
 use Rattle.proof_walk.proofs.State.{Open, Raised, At}
 use Rattle.proof_walk.proofs.PartRows.{table-kept}
 use Rattle.proof_walk.proofs.InExprs.{places-on, slots-same, slots-both, stamped-on}
-use Rattle.proof_walk.proofs.Exprs.{Walked}
 
 -- ---- marks
 pub raised-same : {end a b : ℕ} → b ≡ a → Raised end a b
@@ -82,14 +80,10 @@ change-then {num} {s} {r} {m} {e} {w} {v} {z} l k p q = record {
       old ∙ p .others x h c i d (ap (λ n. n / 8_192) (sym old) ∙ g);
 }
 
--- these are the assigned names at row e
-abbrev pub Right : List Note → Env → List Part → ℕ → Type 0
-Right ns v a e = v .home ≡ inDef → (x : Bytes) → mem x a ≡ assignedBy ns x e
-
--- ---- and what holds after them
-pub record Done (text : Bytes) (rows : List Row) (num : Bytes → ℕ) (ns : List Note) (s : ScopeStack) (v : Env) (st st′ : State) (seen fs : List Fault) (w w′ : List ℕ) (r e : ℕ) : Type 0 where
+-- ---- and what holds after them, where the names vs are in view
+pub record Done (text : Bytes) (rows : List Row) (num : Bytes → ℕ) (ns : List Note) (s : ScopeStack) (v : Env) (vs : List Part) (seen fs : List Fault) (w w′ : List ℕ) (r e : ℕ) : Type 0 where
   pub far : r ≤ e
-  pub after : At text rows num ns s [] v st′ (seenAfter seen fs) w′ e
+  pub after : At text rows num ns s [] v vs (seenAfter seen fs) w′ e
   pub slots : slotsFrom w′ r (e - r) ≡ keys (dedupe seen fs)
   pub change : Change num s r e w w′
 
@@ -101,42 +95,41 @@ pub record Spans (size k r n stop j : ℕ) : Type 0 where
   pub before : r + size ≤ j
 
 -- a loop comes from row r to row e
-pub record Looped (text : Bytes) (rows : List Row) (num : Bytes → ℕ) (ns : List Note) (s : ScopeStack) (v : Env) (loop : ℕ → List ℕ → List ℕ) (st st′ : State) (seen fs : List Fault) (w : List ℕ)
+pub record Looped (text : Bytes) (rows : List Row) (num : Bytes → ℕ) (ns : List Note) (s : ScopeStack) (v : Env) (loop : ℕ → List ℕ → List ℕ) (vs : List Part) (seen fs : List Fault) (w : List ℕ)
     (r e : ℕ) : Type 0 where
   pub there : List ℕ
   pub goes : loop r w ≡ loop e there
-  pub done : Done text rows num ns s v st st′ seen fs w there r e
+  pub done : Done text rows num ns s v vs seen fs w there r e
 
 module _ {text : Bytes} {rows : List Row} {num : Bytes → ℕ} {ns : List Note} {s : ScopeStack} {v : Env} where
-  pub done-then : {st₀ st₁ st₂ : State} {seen fs gs : List Fault} {w₀ w₁ w₂ : List ℕ} {r m e : ℕ} → Done text rows num ns s v st₀ st₁ seen fs w₀ w₁ r m
-      → Done text rows num ns s v st₁ st₂ (seenAfter seen fs) gs w₁ w₂ m e → Done text rows num ns s v st₀ st₂ seen (fs ++ gs) w₀ w₂ r e
-  done-then {st₀} {st₁} {st₂} {seen} {fs} {gs} {w₀} {w₁} {w₂} {r} {m} {e} p q = record {
+  pub done-then : {us vs : List Part} {seen fs gs : List Fault} {w₀ w₁ w₂ : List ℕ} {r m e : ℕ} → Done text rows num ns s v us seen fs w₀ w₁ r m
+      → Done text rows num ns s v vs (seenAfter seen fs) gs w₁ w₂ m e → Done text rows num ns s v vs seen (fs ++ gs) w₀ w₂ r e
+  done-then {us} {vs} {seen} {fs} {gs} {w₀} {w₁} {w₂} {r} {m} {e} p q = record {
     far = omega (arith, p .far, q .far);
-    after = subst (λ l. At text rows num ns s [] v st₂ l w₂ e) (sym (seen-append seen fs gs)) (q .after);
+    after = subst (λ l. At text rows num ns s [] v vs l w₂ e) (sym (seen-append seen fs gs)) (q .after);
     slots = slots-then w₁ w₂ seen fs gs (p .far) (q .far) (q .change .before) (p .slots) (q .slots);
     change = change-then (p .far) (q .far) (p .change) (q .change);
   }
 
   -- ---- rows that keep the stamps, and the captures seen
-  module _ {st : State} {seen : List Fault} {w : List ℕ} {r : ℕ} (h : At text rows num ns s [] v st seen w r) where
-    record Next (st′ : State) (w′ : List ℕ) (e : ℕ) : Type 0 where
+  module _ {vs : List Part} {seen : List Fault} {w : List ℕ} {r : ℕ} (h : At text rows num ns s [] v vs seen w r) where
+    record Next (us : List Part) (w′ : List ℕ) (e : ℕ) : Type 0 where
       far : r ≤ e
       room : e ≤ length rows
       kept : Kept w w′
       words : Words w′
-      view : (x : Bytes) → num x < 4_096 → Open (s .end) e (blockEnd w′ (num x)) (mem x (st′ .view))
-      assigned : Right ns v (st′ .assigned) e
+      view : (x : Bytes) → num x < 4_096 → Open (s .end) e (blockEnd w′ (num x)) (mem x us)
       blocks : (x : Bytes) → num x < 4_096 → Raised (s .end) (blockEnd w (num x)) (blockEnd w′ (num x))
       lambdas : (x : Bytes) → num x < 4_096 → lambdaEnd w′ (num x) ≡ lambdaEnd w (num x)
       stamps : (a : ℕ) → stampAt w′ a ≡ stampAt w a
 
     -- fs are no captures
-    done-next : {st′ : State} {w′ : List ℕ} {e : ℕ} {fs : List Fault} → seenAfter seen fs ≡ seen → Next st′ w′ e
+    done-next : {us : List Part} {w′ : List ℕ} {e : ℕ} {fs : List Fault} → seenAfter seen fs ≡ seen → Next us w′ e
         → ((i : ℕ) → i < r → slotAt w′ i ≡ slotAt w i) → ((i : ℕ) → e ≤ i → i < length rows → slotAt w′ i ≡ 0)
-        → slotsFrom w′ r (e - r) ≡ keys (dedupe seen fs) → Done text rows num ns s v st st′ seen fs w w′ r e
-    done-next {st′} {w′} {e} {fs} q n before clean slots = record {
+        → slotsFrom w′ r (e - r) ≡ keys (dedupe seen fs) → Done text rows num ns s v us seen fs w w′ r e
+    done-next {us} {w′} {e} {fs} q n before clean slots = record {
       far = n .far;
-      after = subst (λ l. At text rows num ns s [] v st′ l w′ e) (sym q) at;
+      after = subst (λ l. At text rows num ns s [] v us l w′ e) (sym q) at;
       slots = slots;
       change = record {
         kept = n .kept;
@@ -147,44 +140,40 @@ module _ {text : Bytes} {rows : List Row} {num : Bytes → ℕ} {ns : List Note}
       };
     }
       where
-        at : At text rows num ns s [] v st′ seen w′ e
+        at : At text rows num ns s [] v us seen w′ e
         at = record {
-          row = record {
-            table = table-kept (n .kept) (h .row .table);
-            words = n .words;
-            home = h .row .home;
-            view = n .view;
-            params = λ x l. open-raised (h .row .params x l) (n .far) (raised-same (n .lambdas x l));
-            own = λ d. stamped-on (n .stamps) (h .row .own d);
-            locals = h .row .locals;
-            others = h .row .others;
-            clean = clean;
-            places = places-on (n .far) seen (h .row .places);
-          };
-          assigned = n .assigned;
+          table = table-kept (n .kept) (h .table);
+          words = n .words;
+          home = h .home;
+          view = n .view;
+          params = λ x l. open-raised (h .params x l) (n .far) (raised-same (n .lambdas x l));
+          own = λ d. stamped-on (n .stamps) (h .own d);
+          locals = h .locals;
+          others = h .others;
           low = λ x l. let far = n .far in omega (arith, h .low x l, n .stamps (num x));
+          clean = clean;
+          places = places-on (n .far) seen (h .places);
         }
 
     -- no fault is there
-    done-plain : {st′ : State} {w′ : List ℕ} {e : ℕ} → Next st′ w′ e → ((i : ℕ) → i < 4_096 → slotAt w′ i ≡ slotAt w i)
-        → Done text rows num ns s v st st′ seen [] w w′ r e
-    done-plain {st′} {w′} {e} n same =
-        let few = h .row .table .few in
+    done-plain : {us : List Part} {w′ : List ℕ} {e : ℕ} → Next us w′ e → ((i : ℕ) → i < 4_096 → slotAt w′ i ≡ slotAt w i)
+        → Done text rows num ns s v us seen [] w w′ r e
+    done-plain {us} {w′} {e} n same =
+        let few = h .table .few in
         let room = n .room in
         let far = n .far in
-        done-next refl n (λ i l. same i (omega arith)) (λ i l k. same i (omega arith) ∙ h .row .clean i (omega arith) k)
-        (slots-none w′ r (e - r) (λ i l k. same i (omega arith) ∙ h .row .clean i l (omega arith)))
+        done-next refl n (λ i l. same i (omega arith)) (λ i l k. same i (omega arith) ∙ h .clean i (omega arith) k)
+        (slots-none w′ r (e - r) (λ i l k. same i (omega arith) ∙ h .clean i l (omega arith)))
 
-    -- rows that are stepped over; a are the assigned names after them
-    pub done-skip : {e : ℕ} (a : List Part) → r ≤ e → e ≤ length rows → Right ns v a e → Done text rows num ns s v st (record { view = st .view; assigned = a }) seen [] w w r e
-    done-skip {e} a l k right =
+    -- rows that are stepped over
+    pub done-skip : {e : ℕ} → r ≤ e → e ≤ length rows → Done text rows num ns s v vs seen [] w w r e
+    done-skip {e} l k =
         done-plain (record {
           far = l;
           room = k;
           kept = kept-refl w;
-          words = h .row .words;
-          view = λ x m. open-raised (h .row .view x m) l (raised-same refl);
-          assigned = right;
+          words = h .words;
+          view = λ x m. open-raised (h .view x m) l (raised-same refl);
           blocks = λ x m. raised-same refl;
           lambdas = λ x m. refl;
           stamps = λ a. refl;
@@ -192,25 +181,24 @@ module _ {text : Bytes} {rows : List Row} {num : Bytes → ℕ} {ns : List Note}
 
     -- a fault at row r, and none below it
     pub done-fault : {e : ℕ} (f : Fault) → capture (f .kind) ≡ false → f .line ≡ suc (suc r) → 0 < f .kind → f .kind < 16 → r < e → e ≤ length rows
-        → Right ns v (st .assigned) e → Done text rows num ns s v st st seen (f ∷ []) w (putSlot w r (f .kind)) r e
-    done-fault {e} f c n pos small l k right =
-        let few = h .row .table .few in
-        let room = h .row .table .room in
+        → Done text rows num ns s v vs seen (f ∷ []) w (putSlot w r (f .kind)) r e
+    done-fault {e} f c n pos small l k =
+        let few = h .table .few in
+        let room = h .table .room in
         let w′ : List ℕ = putSlot w r (f .kind) in
         done-next (rw c refl) (record {
           far = omega arith;
           room = k;
           kept = kept-slot w r (f .kind);
-          words = words-slot w r (f .kind) (h .row .words);
-          view = λ x m. open-raised (h .row .view x m) (omega arith) (raised-same (slot-block w r (f .kind) (num x)));
-          assigned = right;
+          words = words-slot w r (f .kind) (h .words);
+          view = λ x m. open-raised (h .view x m) (omega arith) (raised-same (slot-block w r (f .kind) (num x)));
           blocks = λ x m. raised-same (slot-block w r (f .kind) (num x));
           lambdas = λ x m. slot-lambda w r (f .kind) (num x) m;
           stamps = λ a. slot-stamp w r (f .kind) (omega arith) a;
         })
         (λ i m. slot-other w r (f .kind) i (λ q. omega arith))
-        (λ i m p. slot-other w r (f .kind) i (λ q. omega arith) ∙ h .row .clean i (omega arith) p)
-        (rw c (slots w′ (λ i p q. slot-other w r (f .kind) i (λ z. omega arith) ∙ h .row .clean i (omega arith) q) (slot-same w r (f .kind) room (omega arith) small)))
+        (λ i m p. slot-other w r (f .kind) i (λ q. omega arith) ∙ h .clean i (omega arith) p)
+        (rw c (slots w′ (λ i p q. slot-other w r (f .kind) i (λ z. omega arith) ∙ h .clean i (omega arith) q) (slot-same w r (f .kind) room (omega arith) small)))
       where
         slots : (w′ : List ℕ) → ((i : ℕ) → r < i → i < length rows → slotAt w′ i ≡ 0) → slotAt w′ r ≡ f .kind → slotsFrom w′ r (e - r) ≡ keys (f ∷ [])
         slots w′ none q =
@@ -219,22 +207,21 @@ module _ {text : Bytes} {rows : List Row} {num : Bytes → ℕ} {ns : List Note}
             ∙ ap₂ (λ a b. a ++ b) (ap (keyOf (suc (suc r))) q ∙ key-some (suc (suc r)) (f .kind) pos ∙ ap (λ i. record { line = i; kind = f .kind } ∷ []) (sym n))
             (slots-none w′ (suc r) (e - suc r) (λ i p z. none i p (omega arith)))
 
-    -- the name x is bound in the block; a are the assigned names after it
-    pub done-bind : {e : ℕ} (x : Part) (a : List Part) → s .inner ≡ 0 → s .end < 8_192 → num (x .bytes) < 4_096 → r ≤ e → e ≤ length rows → Right ns v a e
-        → Done text rows num ns s v st (record { view = x ∷ st .view; assigned = a }) seen [] w (defined s w (num (x .bytes))) r e
-    done-bind {e} x a level end small l k right =
-        subst (λ z. Done text rows num ns s v st (record { view = x ∷ st .view; assigned = a }) seen [] w z r e) (sym (defined-block s w (num (x .bytes)) level))
+    -- the name x is bound in the block
+    pub done-bind : {e : ℕ} (x : Part) → s .inner ≡ 0 → s .end < 8_192 → num (x .bytes) < 4_096 → r ≤ e → e ≤ length rows
+        → Done text rows num ns s v (x ∷ vs) seen [] w (defined s w (num (x .bytes))) r e
+    done-bind {e} x level end small l k =
+        subst (λ z. Done text rows num ns s v (x ∷ vs) seen [] w z r e) (sym (defined-block s w (num (x .bytes)) level))
         (done-plain (record {
           far = l;
           room = k;
           kept = kept-raised-block w (num (x .bytes)) (s .end);
-          words = words-raised-block w (num (x .bytes)) (s .end) (h .row .words);
+          words = words-raised-block w (num (x .bytes)) (s .end) (h .words);
           view = λ y m. view y m (same y (x .bytes)) refl;
-          assigned = right;
           blocks = λ y m. blocks y m (same y (x .bytes)) refl;
           lambdas = λ y m. raised-block-lambda w (num (x .bytes)) (s .end) (num y) m;
           stamps = λ a. raised-block-stamp w (num (x .bytes)) (s .end) a;
-        }) (λ i m. raised-block-slot w (num (x .bytes)) (s .end) (h .row .words) i))
+        }) (λ i m. raised-block-slot w (num (x .bytes)) (s .end) (h .words) i))
       where
         w′ : List ℕ
         w′ = raisedBlock w (num (x .bytes)) (s .end)
@@ -243,52 +230,35 @@ module _ {text : Bytes} {rows : List Row} {num : Bytes → ℕ} {ns : List Note}
         mark : (y : Bytes) → same y (x .bytes) ≡ true → blockEnd w′ (num y) ≡ max (blockEnd w (num y)) (s .end)
         mark y q =
             subst (λ z. blockEnd w′ (num z) ≡ max (blockEnd w (num z)) (s .end)) (sym (same-eq y (x .bytes) q))
-            (raised-block-same w (num (x .bytes)) (s .end) (h .row .table .room) small end)
+            (raised-block-same w (num (x .bytes)) (s .end) (h .table .room) small end)
 
         other : (y : Bytes) → num y < 4_096 → same y (x .bytes) ≡ false → blockEnd w′ (num y) ≡ blockEnd w (num y)
-        other y m q = raised-block-other w (num (x .bytes)) (s .end) (num y) (λ d. same-false y (x .bytes) q (h .row .table .apart y (x .bytes) m d))
+        other y m q = raised-block-other w (num (x .bytes)) (s .end) (num y) (λ d. same-false y (x .bytes) q (h .table .apart y (x .bytes) m d))
 
-        view : (y : Bytes) → num y < 4_096 → (t : Bool) → same y (x .bytes) ≡ t → Open (s .end) e (blockEnd w′ (num y)) (t || mem y (st .view))
+        view : (y : Bytes) → num y < 4_096 → (t : Bool) → same y (x .bytes) ≡ t → Open (s .end) e (blockEnd w′ (num y)) (t || mem y vs)
         view y m true q = record { far = λ _. omega (arith, mark y q); closed = λ p. absurd (true≢false p) }
-        view y m false q = open-raised (h .row .view y m) l (raised-same (other y m q))
+        view y m false q = open-raised (h .view y m) l (raised-same (other y m q))
 
         blocks : (y : Bytes) → num y < 4_096 → (t : Bool) → same y (x .bytes) ≡ t → Raised (s .end) (blockEnd w (num y)) (blockEnd w′ (num y))
         blocks y m true q = omega (arith, mark y q)
         blocks y m false q = raised-same (other y m q)
 
-  -- an expression; a are the assigned names after it
-  pub done-walked : {st : State} {seen fs : List Fault} {w z : List ℕ} {r n e : ℕ} (a : List Part) → e ≡ r + n → Right ns v a e → Walked text rows num ns s v st seen r n w z fs
-      → Done text rows num ns s v st (record { view = st .view; assigned = a }) seen fs w z r e
-  done-walked {st} {seen} {fs} {w} {z} {r} {n} {e} a q right k =
-      subst (λ i. Right ns v a i → Done text rows num ns s v st (record { view = st .view; assigned = a }) seen fs w z r i) (sym q) (λ right. record {
-        far = omega arith;
-        after = k .after a right;
-        slots = let d : (r + n) - r ≡ n = omega arith in ap (slotsFrom z r) d ∙ k .slots;
-        change = record {
-          kept = k .kept;
-          before = k .before;
-          blocks = λ x l. raised-same (k .blocks (num x));
-          lambdas = k .lambdas;
-          others = λ x l c _ _ _. k .stamps (num x);
-        };
-      }) right
-
   -- ---- loops
-  module _ {loop : ℕ → List ℕ → List ℕ} {st₀ st₁ : State} {seen fs : List Fault} {w : List ℕ} {r : ℕ} where
-    pub looped-one : {e : ℕ} {w′ : List ℕ} → loop r w ≡ loop e w′ → Done text rows num ns s v st₀ st₁ seen fs w w′ r e → Looped text rows num ns s v loop st₀ st₁ seen fs w r e
+  module _ {loop : ℕ → List ℕ → List ℕ} {vs : List Part} {seen fs : List Fault} {w : List ℕ} {r : ℕ} where
+    pub looped-one : {e : ℕ} {w′ : List ℕ} → loop r w ≡ loop e w′ → Done text rows num ns s v vs seen fs w w′ r e → Looped text rows num ns s v loop vs seen fs w r e
     looped-one {e} {w′} q d = record { there = w′; goes = q; done = d }
 
-    pub looped-then : {st₂ : State} {gs : List Fault} {m e : ℕ} {w′ : List ℕ} → loop r w ≡ loop m w′ → Done text rows num ns s v st₀ st₁ seen fs w w′ r m
-        → Looped text rows num ns s v loop st₁ st₂ (seenAfter seen fs) gs w′ m e → Looped text rows num ns s v loop st₀ st₂ seen (fs ++ gs) w r e
+    pub looped-then : {us : List Part} {gs : List Fault} {m e : ℕ} {w′ : List ℕ} → loop r w ≡ loop m w′ → Done text rows num ns s v vs seen fs w w′ r m
+        → Looped text rows num ns s v loop us (seenAfter seen fs) gs w′ m e → Looped text rows num ns s v loop us seen (fs ++ gs) w r e
     looped-then p d q = record { there = q .there; goes = p ∙ q .goes; done = done-then d (q .done) }
 
-    pub looped-to : {gs : List Fault} {m e : ℕ} → m ≡ e → fs ≡ gs → Looped text rows num ns s v loop st₀ st₁ seen fs w r m → Looped text rows num ns s v loop st₀ st₁ seen gs w r e
-    looped-to {gs} {m} {e} p q l = subst (Looped text rows num ns s v loop st₀ st₁ seen gs w r) p (subst (λ fs. Looped text rows num ns s v loop st₀ st₁ seen fs w r m) q l)
+    pub looped-to : {gs : List Fault} {m e : ℕ} → m ≡ e → fs ≡ gs → Looped text rows num ns s v loop vs seen fs w r m → Looped text rows num ns s v loop vs seen gs w r e
+    looped-to {gs} {m} {e} p q l = subst (Looped text rows num ns s v loop vs seen gs w r) p (subst (λ fs. Looped text rows num ns s v loop vs seen fs w r m) q l)
 
     -- the loop ends at row e
-    pub looped-end : {e : ℕ} → ((z : List ℕ) → loop e z ≡ z) → Looped text rows num ns s v loop st₀ st₁ seen fs w r e → Done text rows num ns s v st₀ st₁ seen fs w (loop r w) r e
-    looped-end {e} q l = subst (λ z. Done text rows num ns s v st₀ st₁ seen fs w z r e) (sym (l .goes ∙ q (l .there))) (l .done)
+    pub looped-end : {e : ℕ} → ((z : List ℕ) → loop e z ≡ z) → Looped text rows num ns s v loop vs seen fs w r e → Done text rows num ns s v vs seen fs w (loop r w) r e
+    looped-end {e} q l = subst (λ z. Done text rows num ns s v vs seen fs w z r e) (sym (l .goes ∙ q (l .there))) (l .done)
 
-  pub done-to : {st₀ st₁ : State} {seen fs gs : List Fault} {w z : List ℕ} {r m e : ℕ} → m ≡ e → fs ≡ gs → Done text rows num ns s v st₀ st₁ seen fs w z r m → Done text rows num ns s v st₀ st₁ seen gs w z r e
-  done-to {st₀} {st₁} {seen} {fs} {gs} {w} {z} {r} {m} {e} p q d =
-      subst (Done text rows num ns s v st₀ st₁ seen gs w z r) p (subst (λ fs. Done text rows num ns s v st₀ st₁ seen fs w z r m) q d)
+  pub done-to : {vs : List Part} {seen fs gs : List Fault} {w z : List ℕ} {r m e : ℕ} → m ≡ e → fs ≡ gs → Done text rows num ns s v vs seen fs w z r m → Done text rows num ns s v vs seen gs w z r e
+  done-to {vs} {seen} {fs} {gs} {w} {z} {r} {m} {e} p q d =
+      subst (Done text rows num ns s v vs seen gs w z r) p (subst (λ fs. Done text rows num ns s v vs seen fs w z r m) q d)

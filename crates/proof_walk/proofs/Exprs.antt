@@ -1,7 +1,7 @@
 -- The walk of an expression outside of lambdas: the slots of its rows are its faults, once for a lambda and a name, and all else holds after
 -- it as before: an expression binds nothing. By recursion over the tree, under lambdas too: the walk goes to the next row by the number of
 -- lines below, which is where the next part begins.
-use Prim.Native.Nat.{ℕ, zero, suc, _+_, _/_, _≤_, _<_}
+use Prim.Native.Nat.{ℕ, zero, suc, _+_, _-_, _≤_, _<_}
 use native.Mathlib.Omega.{arith}
 use native.Mathlib.Numerals.{add-one}
 use mathlib.Core.Path.{_≡_, refl, sym, ap, ap₂, _∙_, subst}
@@ -10,20 +10,18 @@ use mathlib.Core.List.{List, [], _∷_, _++_}
 use lib.Dec.{eqb, ltb}
 use lib.ListN.{length}
 use borrow.Author.Tests.{lt-leb, not-true}
-use Rattle.spec_text.specs.Bytes.{Bytes, Part, mem}
+use Rattle.spec_text.specs.Bytes.{Bytes}
 use Rattle.spec_text.specs.Tree.{Line, Expr, Exprs, var, node, access, tuple, call, lambda, enil, econs, lenE, lenEs}
 use Rattle.spec_text.proofs.Lists.{and-split}
-use Rattle.spec_faults.specs.Position.{Placed, inDef, Use, value, callee}
+use Rattle.spec_faults.specs.Position.{Placed, Use, value, callee}
 use Rattle.spec_faults.specs.Faults.{Fault}
 use Rattle.spec_faults.proofs.ListingWalk.{State, Env}
 use Rattle.spec_faults.proofs.TextWalk.{rawE, rawEs}
-use Rattle.spec_faults.proofs.Deduped.{dedupe, seenAfter}
+use Rattle.spec_faults.proofs.Deduped.{seenAfter}
 use Rattle.work_rows.specs.Layout.{rowsMost, kindAt, numberAt, afterRow}
 use Rattle.work_rows.specs.Rows.{Row, row, rowsE, rowsEs}
 use Rattle.work_rows.proofs.Lengths.{sized-e}
-use Rattle.work_marks.specs.MarksModel.{lambdaEnd, blockEnd, slotAt, stampAt}
 use Rattle.work_rows.specs.LoopsModel.{rowsTo}
-use Rattle.work_marks.proofs.Writes.{Kept}
 use Rattle.work_rows.proofs.Loops.{rows-end, rows-more}
 use Rattle.walk_scopes.specs.ScopesModel.{pushedLambda}
 use Rattle.walk_scopes.specs.declared.ScopeStack.{ScopeStack}
@@ -32,12 +30,13 @@ use Rattle.walk_judge.specs.JudgeModel.{readOf}
 use Rattle.walk_blocks.specs.BlocksModel.{opened}
 use Rattle.walk_tree.specs.WalkModel.{exprAt, walkExpr, walkStmt, walkLine, walkExprs}
 use Rattle.proof_walk.specs.Table.{ParamWord, lambda as lambdaWord, Table, Here}
-use Rattle.proof_walk.specs.Notes.{Note, assignedBy}
-use Rattle.proof_walk.specs.Slots.{slotsFrom, keys}
-use Rattle.proof_walk.proofs.State.{At, Raised}
+use Rattle.proof_walk.specs.Notes.{Note}
+use Rattle.proof_walk.specs.Slots.{slotsFrom}
+use Rattle.proof_walk.proofs.State.{At}
 use Rattle.proof_walk.proofs.PartRows.{head-row, here-tail, here-left, here-past, row-kind, row-after, row-number, row-params, row-small, row-few, after-E}
 use Rattle.proof_walk.proofs.WordTests.{node-test, access-test}
 use Rattle.proof_walk.proofs.InExprs.{none-blamed, Stands, Step, step-both, step-below, step-quiet, stands-on, onward}
+use Rattle.proof_walk.proofs.Done.{raised-same, Done}
 use Rattle.proof_walk.proofs.OneRead.{Under, flat, under, Around, CalledAs, asValue, asCallee, readAt, read-step}
 use Rattle.proof_walk.proofs.Lambdas.{Bound, bound-opened, around-in, stands-in, step-out}
 pub use Rattle.proof_walk.proofs.OneRead.{Still, Flat}
@@ -140,12 +139,12 @@ module _ {text : Bytes} {rows : List Row} {num : Bytes → ℕ} {ns : List Note}
       → Step num s ls v st seen (suc r) n w (walkExprs k text s (suc r) (suc r + n) w) fs
       → Step num s ls v st seen r (suc n) w (walkExpr (suc k) text called s r w) fs
   below-step {s} {w = w} {l} k r called n pl h p q =
-      let t = p .row .table in
+      let t = p .at .table in
       let e : r + suc n ≡ suc r + n = omega arith in
       step-as
       (at-other k text s called r w (row-few t h) (l .word) (pl .var) (pl .call) (pl .lambda) (row-kind t h)
       ∙ ap₂ (λ i stop. walkExprs k text s i stop w) (add-one r) (row-after t h ∙ e))
-      refl (step-below (p .row .clean r (omega arith) (head-row h .0)) q)
+      refl (step-below (p .at .clean r (omega arith) (head-row h .0)) q)
 
   mutual
     expr-step : (e : Expr) (k r : ℕ) {called : Bool} {u : Use} {s : ScopeStack} {ls : List Placed} {v : Env} {st : State} {seen : List Fault} {w : List ℕ} → CalledAs called u
@@ -153,7 +152,7 @@ module _ {text : Bytes} {rows : List Row} {num : Bytes → ℕ} {ns : List Note}
         → Step num s ls v st seen r (lenE e) w (walkExpr k text called s r w) (rawE e (suc (suc r)) u ls v st)
     expr-step (var l) zero r a h ok few p c = absurd (omega arith)
     expr-step (var l) (suc k) r {called} {u} {s} {ls} {v} {st} {seen} {w} a h ok few p c =
-        let t = p .row .table in
+        let t = p .at .table in
         step-as (at-var k text s called r w (row-few t h) (row-kind t h ∙ ok .0) ∙ ap (λ n. readOf s called n r w) (row-number t h (ok .1))) refl
         (read-step p c (omega arith) l (row-small t h (ok .1)) a)
     expr-step (node l es) zero r a h ok few p c = absurd (omega arith)
@@ -170,7 +169,7 @@ module _ {text : Bytes} {rows : List Row} {num : Bytes → ℕ} {ns : List Note}
         (exprs-step es k (suc r) (here-tail h) (ok .1) (omega arith) (stands-on p (omega arith)) (around-part (omega arith) (omega arith) c))
     expr-step (call l f es) zero r a h ok few p c = absurd (omega arith)
     expr-step (call l f es) (suc k) r {called} {u} {s} {ls} {v} {st} {seen} {w} a h ok few p c =
-        let t = p .row .table in
+        let t = p .at .table in
         let hf : Here rows (suc r) (rowsE f) = here-left (rowsE f) (rowsEs es) (here-tail h) in
         let p′ = stands-on p {i = suc r} (omega arith) in
         let q = expr-step f k (suc r) asCallee hf (ok .1 .0) (omega arith) p′ (around-part (omega arith) (omega arith) c) in
@@ -181,13 +180,13 @@ module _ {text : Bytes} {rows : List Row} {num : Bytes → ℕ} {ns : List Note}
         ∙ ap (λ i. walkExprs k text s (afterRow w i) (afterRow w r) (walkExpr k text true s i w)) (add-one r)
         ∙ ap₂ (λ i stop. walkExprs k text s i stop (walkExpr k text true s (suc r) w)) (after-E t f hf) (row-after t h ∙ e))
         (ap (λ n. rawE f (suc (suc (suc r))) (callee (readAt r l)) ls v st ++ rawEs es n ls v st) d)
-        (step-below (p .row .clean r (omega arith) (head-row h .0))
+        (step-below (p .at .clean r (omega arith) (head-row h .0))
         (step-both q
         (exprs-step es k (suc r + lenE f) (here-past (sized-e f) (rowsEs es) (here-tail h)) (ok .1 .1) (omega arith) (onward p′ (inner-outer (c .lambdas)) q)
         (around-part (omega arith) (omega arith) c))))
     expr-step (lambda l e) zero r a h ok few p c = absurd (omega arith)
     expr-step (lambda l e) (suc k) r {called} {u} {s} {ls} {v} {st} {seen} {w} a h ok few p c =
-        let t = p .row .table in
+        let t = p .at .table in
         let end : ℕ = r + suc (lenE e) in
         let y : List ℕ = opened text (pushedLambda s end) r end w in
         let b : Bound num end (l .params) w y =
@@ -199,8 +198,8 @@ module _ {text : Bytes} {rows : List Row} {num : Bytes → ℕ} {ns : List Note}
         step-as
         (at-lambda k text s called r w (row-few t h) (row-kind t h ∙ ok .0)
         ∙ ap₂ (λ i stop. rowsTo afterRow (walkLine k text (pushedLambda s stop)) i stop (opened text (pushedLambda s stop) r stop w)) (add-one r) (row-after t h)
-        ∙ one-row (walkLine k text (pushedLambda s end)) (suc r) end y (omega arith) (after-E (p′ .row .table) e he ∙ d)
-        ∙ ap (λ m. cond m (walkStmt k text (pushedLambda s end) (suc r) y) (walkExpr k text false (pushedLambda s end) (suc r) y)) (word-E (p′ .row .table) e he (ok .1 .1)))
+        ∙ one-row (walkLine k text (pushedLambda s end)) (suc r) end y (omega arith) (after-E (p′ .at .table) e he ∙ d)
+        ∙ ap (λ m. cond m (walkStmt k text (pushedLambda s end) (suc r) y) (walkExpr k text false (pushedLambda s end) (suc r) y)) (word-E (p′ .at .table) e he (ok .1 .1)))
         refl
         (step-out (lenE e) l p c b (expr-step e k (suc r) asValue he (ok .1 .1) (omega arith) p′ (around-in (lenE e) l p c b)))
 
@@ -216,55 +215,40 @@ module _ {text : Bytes} {rows : List Row} {num : Bytes → ℕ} {ns : List Note}
         let g : r + (lenE e + lenEs es) ≡ r + lenE e + lenEs es = omega arith in
         step-as
         (rows-more afterRow (walkExpr k text false s) after-on r (r + (lenE e + lenEs es)) w (omega arith)
-        ∙ ap₂ (λ i stop. walkExprs k text s i stop (walkExpr k text false s r w)) (after-E (p .row .table) e he) g)
+        ∙ ap₂ (λ i stop. walkExprs k text s i stop (walkExpr k text false s r w)) (after-E (p .at .table) e he) g)
         (ap (λ n. rawE e (suc (suc r)) value ls v st ++ rawEs es n ls v st) d)
         (step-both q
         (exprs-step es k (r + lenE e) (here-past (sized-e e) (rowsEs es) h) (ok .1) (omega arith) (onward p (inner-outer (c .lambdas)) q) (around-part (omega arith) (omega arith) c)))
 
 -- ---- outside of lambdas
--- n rows from row r on, which have the faults fs, were walked: w was the buffer before them and z is the one after
-pub record Walked (text : Bytes) (rows : List Row) (num : Bytes → ℕ) (ns : List Note) (s : ScopeStack) (v : Env) (st : State) (seen : List Fault) (r n : ℕ) (w z : List ℕ) (fs : List Fault) : Type 0 where
-  pub after : (a : List Part) → (v .home ≡ inDef → (x : Bytes) → mem x a ≡ assignedBy ns x (r + n))
-      → At text rows num ns s [] v (record { view = st .view; assigned = a }) (seenAfter seen fs) z (r + n)
-  pub slots : slotsFrom z r n ≡ keys (dedupe seen fs)
-  pub before : (i : ℕ) → i < r → slotAt z i ≡ slotAt w i
-  pub blocks : (a : ℕ) → blockEnd z a ≡ blockEnd w a
-  pub stamps : (a : ℕ) → stampAt z a ≡ stampAt w a
-  pub lambdas : (x : Bytes) → num x < 4_096 → Raised (r + n) (lambdaEnd w (num x)) (lambdaEnd z (num x))
-  pub kept : Kept w z
-
-module _ {text : Bytes} {rows : List Row} {num : Bytes → ℕ} {ns : List Note} (k r : ℕ) {s : ScopeStack} {v : Env} {st : State} {seen : List Fault} {w : List ℕ} where
-  stands-at : At text rows num ns s [] v st seen w r → Stands text rows num ns s [] v st seen w r
-  stands-at p = record {
-    row = p .row;
-    captured = λ x b. absurd (false≢true (sym (none-blamed x r seen (p .row .places)) ∙ b));
-    far = λ x l b. absurd (false≢true (sym (none-blamed x r seen (p .row .places)) ∙ b));
+module _ {text : Bytes} {rows : List Row} {num : Bytes → ℕ} {ns : List Note} (k r : ℕ) {s : ScopeStack} {v : Env} (st : State) {seen : List Fault} {w : List ℕ} (f : Flat s v)
+    (p : At text rows num ns s [] v (st .view) seen w r) where
+  stands-at : Stands text rows num ns s [] v st seen w r
+  stands-at = record {
+    at = p;
+    captured = λ x b. absurd (false≢true (sym (none-blamed x r seen (p .places)) ∙ b));
+    far = λ x l b. absurd (false≢true (sym (none-blamed x r seen (p .places)) ∙ b));
   }
 
   -- what a step does there
-  walked : {n : ℕ} {z : List ℕ} {fs : List Fault} → Flat s v → At text rows num ns s [] v st seen w r → Step num s [] v st seen r n w z fs
-      → Walked text rows num ns s v st seen r n w z fs
-  walked {n} {z} {fs} f p c =
-      record {
-        after = λ a e. record {
-          row = onward (stands-at p) (omega (arith, f .inner)) c .row;
-          assigned = e;
-          low = λ x l. omega (arith, ap (λ m. m / 8_192) (c .stamps (num x)), p .low x l);
-        };
-        slots = c .slots;
-        before = c .before;
-        blocks = c .blocks;
-        stamps = c .stamps;
-        lambdas = λ x l. record { up = c .up x l; most = c .near x l (none-blamed x (r + n) (seenAfter seen fs) (c .places)) };
-        kept = c .kept;
-      }
+  walked : {n : ℕ} {z : List ℕ} {fs : List Fault} → Step num s [] v st seen r n w z fs → Done text rows num ns s v (st .view) seen fs w z r (r + n)
+  walked {n} {z} {fs} c = record {
+    far = omega arith;
+    after = onward stands-at (omega (arith, f .inner)) c .at;
+    slots = let d : (r + n) - r ≡ n = omega arith in ap (slotsFrom z r) d ∙ c .slots;
+    change = record {
+      kept = c .kept;
+      before = c .before;
+      blocks = λ x l. raised-same (c .blocks (num x));
+      lambdas = λ x l. record { up = c .up x l; most = c .near x l (none-blamed x (r + n) (seenAfter seen fs) (c .places)) };
+      others = λ x l i _ _ _. c .stamps (num x);
+    };
+  }
 
-  pub expr-walked : (e : Expr) → Here rows r (rowsE e) → WordedE e → lenE e ≤ k → r + lenE e ≤ s .end → s .end ≤ length rows → Flat s v
-      → At text rows num ns s [] v st seen w r → Still ns v st r (r + lenE e)
-      → Walked text rows num ns s v st seen r (lenE e) w (walkExpr k text false s r w) (rawE e (suc (suc r)) value [] v st)
-  expr-walked e h ok few inside ends f p still = walked f p (expr-step e k r asValue h ok few (stands-at p) (record { lambdas = flat f; inside = inside; ends = ends; still = still }))
+  pub expr-walked : (e : Expr) → Here rows r (rowsE e) → WordedE e → lenE e ≤ k → r + lenE e ≤ s .end → s .end ≤ length rows → Still ns v st r (r + lenE e)
+      → Done text rows num ns s v (st .view) seen (rawE e (suc (suc r)) value [] v st) w (walkExpr k text false s r w) r (r + lenE e)
+  expr-walked e h ok few inside ends still = walked (expr-step e k r asValue h ok few stands-at (record { lambdas = flat f; inside = inside; ends = ends; still = still }))
 
-  pub exprs-walked : (es : Exprs) → Here rows r (rowsEs es) → WordedEs es → lenEs es ≤ k → r + lenEs es ≤ s .end → s .end ≤ length rows → Flat s v
-      → At text rows num ns s [] v st seen w r → Still ns v st r (r + lenEs es)
-      → Walked text rows num ns s v st seen r (lenEs es) w (walkExprs k text s r (r + lenEs es) w) (rawEs es (suc (suc r)) [] v st)
-  exprs-walked es h ok few inside ends f p still = walked f p (exprs-step es k r h ok few (stands-at p) (record { lambdas = flat f; inside = inside; ends = ends; still = still }))
+  pub exprs-walked : (es : Exprs) → Here rows r (rowsEs es) → WordedEs es → lenEs es ≤ k → r + lenEs es ≤ s .end → s .end ≤ length rows → Still ns v st r (r + lenEs es)
+      → Done text rows num ns s v (st .view) seen (rawEs es (suc (suc r)) [] v st) w (walkExprs k text s r (r + lenEs es) w) r (r + lenEs es)
+  exprs-walked es h ok few inside ends still = walked (exprs-step es k r h ok few stands-at (record { lambdas = flat f; inside = inside; ends = ends; still = still }))

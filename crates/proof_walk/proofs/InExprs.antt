@@ -20,7 +20,7 @@ use Rattle.work_marks.proofs.Writes.{Words, Kept, kept-refl, kept-trans}
 use Rattle.walk_scopes.specs.declared.ScopeStack.{ScopeStack}
 use Rattle.proof_walk.specs.Notes.{Note}
 use Rattle.proof_walk.specs.Slots.{keyOf, slotsFrom, keys}
-use Rattle.proof_walk.proofs.State.{Open, Stamped, blamed, placeOf, Places, AtRow}
+use Rattle.proof_walk.proofs.State.{Open, Stamped, blamed, placeOf, Places, At}
 use Rattle.proof_walk.proofs.PartRows.{table-kept}
 
 -- ---- names that a lambda is blamed for
@@ -70,7 +70,7 @@ pub data Captured (home : Home) (locals : List Part) (st : State) (x : Bytes) : 
 
 -- at row r of an expression, with what holds of those names
 pub record Stands (text : Bytes) (rows : List Row) (num : Bytes → ℕ) (ns : List Note) (s : ScopeStack) (ls : List Placed) (v : Env) (st : State) (seen : List Fault) (w : List ℕ) (r : ℕ) : Type 0 where
-  pub row : AtRow text rows num ns s ls v (st .view) seen w r
+  pub at : At text rows num ns s ls v (st .view) seen w r
   pub captured : (x : Bytes) → blamed (placeOf ls) seen x ≡ true → Captured (v .home) (v .locals) st x
   pub far : (x : Bytes) → num x < 4_096 → blamed (placeOf ls) seen x ≡ true → s .outer ≤ lambdaEnd w (num x)
 
@@ -170,7 +170,7 @@ module _ {num : Bytes → ℕ} {s : ScopeStack} {ls : List Placed} {v : Env} {st
     pub step-quiet : (n : ℕ) (fs : List Fault) → slotsFrom w r n ≡ [] → dedupe seen fs ≡ [] → seenAfter seen fs ≡ seen → Step num s ls v st seen r n w w fs
     step-quiet n fs c d e = record {
       kept = kept-refl w;
-      words = p .row .words;
+      words = p .at .words;
       slots = c ∙ ap keys (sym d);
       before = λ i l. refl;
       beyond = λ i l. refl;
@@ -181,23 +181,24 @@ module _ {num : Bytes → ℕ} {s : ScopeStack} {ls : List Placed} {v : Env} {st
       most = λ x l. omega arith;
       far = λ x l b. p .far x l (ap (λ t. blamed (placeOf ls) t x) (sym e) ∙ b);
       captured = λ x b. p .captured x (ap (λ t. blamed (placeOf ls) t x) (sym e) ∙ b);
-      places = subst (Places (r + n)) (sym e) (places-on (omega arith) seen (p .row .places));
+      places = subst (Places (r + n)) (sym e) (places-on (omega arith) seen (p .at .places));
     }
 
     -- at a later row, where nothing was walked between
     pub stands-on : {i : ℕ} → r ≤ i → Stands text rows num ns s ls v st seen w i
     stands-on l = record {
-      row = record {
-        table = p .row .table;
-        words = p .row .words;
-        home = p .row .home;
-        view = λ x j. open-on l (p .row .view x j);
-        params = λ x j. open-on l (p .row .params x j);
-        own = p .row .own;
-        locals = p .row .locals;
-        others = p .row .others;
-        clean = λ i j k. p .row .clean i (omega arith) k;
-        places = places-on l seen (p .row .places);
+      at = record {
+        table = p .at .table;
+        words = p .at .words;
+        home = p .at .home;
+        view = λ x j. open-on l (p .at .view x j);
+        params = λ x j. open-on l (p .at .params x j);
+        own = p .at .own;
+        locals = p .at .locals;
+        others = p .at .others;
+        low = λ x j. omega (arith, p .at .low x j);
+        clean = λ i j k. p .at .clean i (omega arith) k;
+        places = places-on l seen (p .at .places);
       };
       captured = p .captured;
       far = p .far;
@@ -207,16 +208,17 @@ module _ {num : Bytes → ℕ} {s : ScopeStack} {ls : List Placed} {v : Env} {st
     pub onward : {n : ℕ} {z : List ℕ} {fs : List Fault} → s .inner ≤ s .outer → Step num s ls v st seen r n w z fs
         → Stands text rows num ns s ls v st (seenAfter seen fs) z (r + n)
     onward {n} {z} {fs} low q = record {
-      row = record {
-        table = table-kept (q .kept) (p .row .table);
+      at = record {
+        table = table-kept (q .kept) (p .at .table);
         words = q .words;
-        home = p .row .home;
-        view = λ x l. subst (λ m. Open (s .end) (r + n) m (mem x (st .view))) (sym (q .blocks (num x))) (open-on (omega arith) (p .row .view x l));
+        home = p .at .home;
+        view = λ x l. subst (λ m. Open (s .end) (r + n) m (mem x (st .view))) (sym (q .blocks (num x))) (open-on (omega arith) (p .at .view x l));
         params = λ x l. marked x l (mem x (v .params)) (blamed (placeOf ls) (seenAfter seen fs) x) refl refl;
-        own = λ d. stamped-on (q .stamps) (p .row .own d);
-        locals = p .row .locals;
-        others = p .row .others;
-        clean = λ i l k. q .beyond i l ∙ p .row .clean i (omega arith) k;
+        own = λ d. stamped-on (q .stamps) (p .at .own d);
+        locals = p .at .locals;
+        others = p .at .others;
+        low = λ x l. omega (arith, q .stamps (num x), p .at .low x l);
+        clean = λ i l k. q .beyond i l ∙ p .at .clean i (omega arith) k;
         places = q .places;
       };
       captured = q .captured;
@@ -226,7 +228,7 @@ module _ {num : Bytes → ℕ} {s : ScopeStack} {ls : List Placed} {v : Env} {st
         marked : (x : Bytes) → num x < 4_096 → (a b : Bool) → mem x (v .params) ≡ a → blamed (placeOf ls) (seenAfter seen fs) x ≡ b
             → Open (s .inner) (r + n) (lambdaEnd z (num x)) (mem x (v .params) || blamed (placeOf ls) (seenAfter seen fs) x)
         marked x l true b e d = record {
-          far = λ _. omega (arith, p .row .params x l .far (ap (λ t. t || blamed (placeOf ls) seen x) e), q .up x l);
+          far = λ _. omega (arith, p .at .params x l .far (ap (λ t. t || blamed (placeOf ls) seen x) e), q .up x l);
           closed = λ c. absurd (true≢false (sym (ap (λ t. t || blamed (placeOf ls) (seenAfter seen fs) x) e) ∙ c));
         }
         marked x l false true e d = record {
@@ -235,5 +237,5 @@ module _ {num : Bytes → ℕ} {s : ScopeStack} {ls : List Placed} {v : Env} {st
         }
         marked x l false false e d = record {
           far = λ c. absurd (false≢true (sym (ap₂ _||_ e d) ∙ c));
-          closed = λ _. omega (arith, q .near x l d, p .row .params x l .closed (ap₂ _||_ e (blamed-before (placeOf ls) x seen fs d)));
+          closed = λ _. omega (arith, q .near x l d, p .at .params x l .closed (ap₂ _||_ e (blamed-before (placeOf ls) x seen fs d)));
         }

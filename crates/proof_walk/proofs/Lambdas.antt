@@ -179,7 +179,7 @@ module _ {s : ScopeStack} {v : Env} {r end : ℕ} (l : Line) where
 module _ {text : Bytes} {rows : List Row} {num : Bytes → ℕ} {ns : List Note} {s : ScopeStack} {ls : List Placed} {v : Env} {st : State} {seen : List Fault} {w y : List ℕ} {r : ℕ} (n : ℕ) (l : Line) (p : Stands text rows num ns s ls v st seen w r) (c : Around rows ns s ls v st r (r + suc n)) (b : Bound num (r + suc n) (l .params) w y) where
   pub around-in : Around rows ns (pushedLambda s (r + suc n)) (readAt r l ∷ ls) (withParams (l .params) v) st (suc r) (suc r + n)
   around-in = record {
-    lambdas = under-in l (omega arith) (omega arith) (omega (arith, c .inside, c .ends, p .row .table .few)) (c .lambdas);
+    lambdas = under-in l (omega arith) (omega arith) (omega (arith, c .inside, c .ends, p .at .table .few)) (c .lambdas);
     inside = omega (arith, c .inside);
     ends = c .ends;
     still = λ d x i j k. c .still d x i (omega arith) (omega arith);
@@ -194,42 +194,43 @@ module _ {text : Bytes} {rows : List Row} {num : Bytes → ℕ} {ns : List Note}
 
   pub stands-in : Stands text rows num ns (pushedLambda s (r + suc n)) (readAt r l ∷ ls) (withParams (l .params) v) st seen y (suc r)
   stands-in = record {
-    row = record {
-      table = table-kept (b .kept) (p .row .table);
-      words = b .words (p .row .words);
-      home = p .row .home;
-      view = λ x j. subst (λ m. Open (s .end) (suc r) m (mem x (st .view))) (sym (b .blocks (num x))) (open-on (omega arith) (p .row .view x j));
+    at = record {
+      table = table-kept (b .kept) (p .at .table);
+      words = b .words (p .at .words);
+      home = p .at .home;
+      view = λ x j. subst (λ m. Open (s .end) (suc r) m (mem x (st .view))) (sym (b .blocks (num x))) (open-on (omega arith) (p .at .view x j));
       params = λ x j.
           subst (Open (r + suc n) (suc r) (lambdaEnd y (num x)))
-          (sym (ap₂ _||_ (mem-append x (l .params) (v .params)) (blamed-in l (c .lambdas) seen (p .row .places) x) ∙ or-assoc (mem x (l .params)) (mem x (v .params)) (blamed (placeOf ls) seen x)))
+          (sym (ap₂ _||_ (mem-append x (l .params) (v .params)) (blamed-in l (c .lambdas) seen (p .at .places) x) ∙ or-assoc (mem x (l .params)) (mem x (v .params)) (blamed (placeOf ls) seen x)))
           (marks x j (mem x (l .params)) (mem x (v .params) || blamed (placeOf ls) seen x) refl refl);
-      own = λ d. stamped-on (b .stamps) (p .row .own d);
-      locals = p .row .locals;
-      others = p .row .others;
-      clean = λ i j k. b .slots i ∙ p .row .clean i (omega arith) k;
-      places = places-on (omega arith) seen (p .row .places);
+      own = λ d. stamped-on (b .stamps) (p .at .own d);
+      locals = p .at .locals;
+      others = p .at .others;
+      low = λ x j. omega (arith, b .stamps (num x), p .at .low x j);
+      clean = λ i j k. b .slots i ∙ p .at .clean i (omega arith) k;
+      places = places-on (omega arith) seen (p .at .places);
     };
-    captured = λ x h. p .captured x (sym (blamed-in l (c .lambdas) seen (p .row .places) x) ∙ h);
+    captured = λ x h. p .captured x (sym (blamed-in l (c .lambdas) seen (p .at .places) x) ∙ h);
     far = λ x j h.
-        let g = sym (blamed-in l (c .lambdas) seen (p .row .places) x) ∙ h in
-        omega (arith, far-in l (c .lambdas) seen (p .row .places) x g, p .far x j g, raised-in x j .up);
+        let g = sym (blamed-in l (c .lambdas) seen (p .at .places) x) ∙ h in
+        omega (arith, far-in l (c .lambdas) seen (p .at .places) x g, p .far x j g, raised-in x j .up);
   }
     where
       marks : (x : Bytes) → num x < 4_096 → (a o : Bool) → mem x (l .params) ≡ a → (mem x (v .params) || blamed (placeOf ls) seen x) ≡ o → Open (r + suc n) (suc r) (lambdaEnd y (num x)) (a || o)
       marks x j true o e d = record { far = λ _. omega (arith, b .marked x j e); closed = λ h. absurd (true≢false h) }
       marks x j false true e d = record {
-        far = λ _. omega (arith, b .others x j e, p .row .params x j .far d, open-in l (c .lambdas) seen (p .row .places) x d);
+        far = λ _. omega (arith, b .others x j e, p .at .params x j .far d, open-in l (c .lambdas) seen (p .at .places) x d);
         closed = λ h. absurd (true≢false h);
       }
       marks x j false false e d = record {
         far = λ h. absurd (false≢true h);
-        closed = λ _. omega (arith, b .others x j e, p .row .params x j .closed d);
+        closed = λ _. omega (arith, b .others x j e, p .at .params x j .closed d);
       }
 
   pub step-out : {z : List ℕ} {fs : List Fault} → Step num (pushedLambda s (r + suc n)) (readAt r l ∷ ls) (withParams (l .params) v) st seen (suc r) n y z fs
       → Step num s ls v st seen r (suc n) w z fs
   step-out {z} {fs} q =
-      step-below (p .row .clean r (omega arith) (omega (arith, c .inside, c .ends)))
+      step-below (p .at .clean r (omega arith) (omega (arith, c .inside, c .ends)))
       (record {
         kept = kept-trans (b .kept) (q .kept);
         words = q .words;

@@ -14,7 +14,7 @@ use Rattle.spec_text.specs.Tree.{Line, Stmts, def, lenS}
 use Rattle.spec_faults.specs.Position.{Home, inModule, inDef, inMethod}
 use Rattle.spec_faults.specs.Faults.{Fault}
 use Rattle.spec_faults.proofs.Lists.{mem-append}
-use Rattle.spec_faults.proofs.ListingWalk.{State, Env, entered}
+use Rattle.spec_faults.proofs.ListingWalk.{Env}
 use Rattle.spec_faults.proofs.Deduped.{seenAfter, seen-append}
 use Rattle.work_rows.specs.Rows.{Row, rowsS}
 use Rattle.work_marks.specs.MarksModel.{lambdaEnd, blockEnd, slotAt, stampAt}
@@ -30,7 +30,7 @@ use Rattle.proof_walk.proofs.PartRows.{table-kept}
 use Rattle.proof_walk.proofs.Opened.{Bound, OpenedDef, opened-def}
 use Rattle.proof_walk.proofs.InExprs.{slots-same}
 use Rattle.proof_walk.proofs.Exprs.{Flat}
-use Rattle.proof_walk.proofs.Done.{raised-same, raised-then, raised-far, open-raised, slots-then, Right, Done}
+use Rattle.proof_walk.proofs.Done.{raised-same, raised-then, raised-far, open-raised, slots-then, Done}
 
 -- each stamp of the def is one that was there
 stamped-fair : {num : Bytes → ℕ} {b : ℕ} {ns : List Note} (w v : List ℕ)
@@ -100,9 +100,9 @@ pub record Block (rows : List Row) (ns : List Note) (s : ScopeStack) (v : Env) :
 abbrev pub Viewed : (num : Bytes → ℕ) {rows : List Row} {ns : List Note} {s : ScopeStack} {v : Env} → Block rows ns s v → List ℕ → Type 0
 Viewed num {s = s} {v = v} b w = v .home ≡ inDef → (x : Bytes) → num x < 4_096 → mem x (b .line .params) ≡ true → s .end ≤ blockEnd w (num x)
 
--- at row r of the block
-pub record Ready (text : Bytes) (num : Bytes → ℕ) {rows : List Row} {ns : List Note} {s : ScopeStack} {v : Env} (b : Block rows ns s v) (st : State) (seen : List Fault) (w : List ℕ) (r : ℕ) : Type 0 where
-  pub at : At text rows num ns s [] v st seen w r
+-- at row r of the block, where the names vs are in view
+pub record Ready (text : Bytes) (num : Bytes → ℕ) {rows : List Row} {ns : List Note} {s : ScopeStack} {v : Env} (b : Block rows ns s v) (vs : List Part) (seen : List Fault) (w : List ℕ) (r : ℕ) : Type 0 where
+  pub at : At text rows num ns s [] v vs seen w r
   pub past : v .home ≡ inDef → s .block < r
   pub viewed : Viewed num b w
 
@@ -118,8 +118,8 @@ record Back (num : Bytes → ℕ) (ns : List Note) (s : ScopeStack) (v : Env) (w
 
 module _ {text : Bytes} {rows : List Row} {num : Bytes → ℕ} {ns : List Note} {s : ScopeStack} {v : Env} (b : Block rows ns s v) where
   -- and at a later row
-  pub ready-on : {st st′ : State} {seen fs : List Fault} {w w′ : List ℕ} {r e : ℕ} → Ready text num b st seen w r → Done text rows num ns s v st st′ seen fs w w′ r e
-      → Ready text num b st′ (seenAfter seen fs) w′ e
+  pub ready-on : {us vs : List Part} {seen fs : List Fault} {w w′ : List ℕ} {r e : ℕ} → Ready text num b us seen w r → Done text rows num ns s v vs seen fs w w′ r e
+      → Ready text num b vs (seenAfter seen fs) w′ e
   ready-on h d = record {
     at = d .after;
     past = λ i. omega (arith, h .past i, d .far);
@@ -127,34 +127,31 @@ module _ {text : Bytes} {rows : List Row} {num : Bytes → ℕ} {ns : List Note}
   }
 
   -- ---- the way into a block in it: at row r the walk bound or noted something, and then went in; hm is the number of the block's home
-  pub enter : {st st₁ : State} {seen fs : List Fault} {w w₁ w₂ : List ℕ} {r stop : ℕ} {ps : List Part} (ns′ : List Note) (v′ : Env) (hm : ℕ)
-      → Done text rows num ns s v st st₁ seen fs w w₁ r (suc r) → Entry num r stop ps w₁ w₂ → stop ≤ s .end → hm ≡ homeNumber (v′ .home) → v′ .params ≡ []
+  pub enter : {vs : List Part} {seen fs : List Fault} {w w₁ w₂ : List ℕ} {r stop : ℕ} {ps : List Part} (ns′ : List Note) (v′ : Env) (hm : ℕ)
+      → Done text rows num ns s v vs seen fs w w₁ r (suc r) → Entry num r stop ps w₁ w₂ → stop ≤ s .end → hm ≡ homeNumber (v′ .home) → v′ .params ≡ []
       → (v′ .home ≡ inDef → Stamped num w₂ r ns′) → (v′ .home ≡ inDef → (x : Bytes) → mem x (v′ .locals) ≡ noteOf ns′ x) → ((v′ .home ≡ inDef → ⊥) → (x : Bytes) → mem x (v′ .locals) ≡ false)
-      → Right ns′ v′ ps (suc r) → At text rows num ns′ (pushed s hm r stop) [] v′ (entered ps st₁) (seenAfter seen fs) w₂ (suc r)
-  enter {st} {st₁} {seen} {fs} {w} {w₁} {w₂} {r} {stop} {ps} ns′ v′ hm p q inner home params own locals others right = record {
-    row = record {
-      table = table-kept (q .kept) (p .after .row .table);
-      words = q .words;
-      home = home;
-      view = λ x l. subst (Open stop (suc r) (blockEnd w₂ (num x))) (sym (mem-append x ps (st₁ .view))) (view x l (mem x ps) refl);
-      params = λ x l. record {
-        far = λ _. omega arith;
-        closed = λ e. omega (arith, q .lambdas x l, p .after .row .params x l .closed (ap (λ ps. mem x ps || blamed 0 (seenAfter seen fs) x) (b .flat .params ∙ sym params) ∙ e));
-      };
-      own = own;
-      locals = locals;
-      others = others;
-      clean = λ i l k. q .slots i (omega (arith, p .after .row .table .few)) ∙ p .after .row .clean i l k;
-      places = p .after .row .places;
+      → At text rows num ns′ (pushed s hm r stop) [] v′ (ps ++ vs) (seenAfter seen fs) w₂ (suc r)
+  enter {vs} {seen} {fs} {w} {w₁} {w₂} {r} {stop} {ps} ns′ v′ hm p q inner home params own locals others = record {
+    table = table-kept (q .kept) (p .after .table);
+    words = q .words;
+    home = home;
+    view = λ x l. subst (Open stop (suc r) (blockEnd w₂ (num x))) (sym (mem-append x ps vs)) (view x l (mem x ps) refl);
+    params = λ x l. record {
+      far = λ _. omega arith;
+      closed = λ e. omega (arith, q .lambdas x l, p .after .params x l .closed (ap (λ ps. mem x ps || blamed 0 (seenAfter seen fs) x) (b .flat .params ∙ sym params) ∙ e));
     };
-    assigned = right;
+    own = own;
+    locals = locals;
+    others = others;
     low = λ x l. low x l (q .stamps x l);
+    clean = λ i l k. q .slots i (omega (arith, p .after .table .few)) ∙ p .after .clean i l k;
+    places = p .after .places;
   }
     where
-      view : (x : Bytes) → num x < 4_096 → (t : Bool) → mem x ps ≡ t → Open stop (suc r) (blockEnd w₂ (num x)) (t || mem x (st₁ .view))
+      view : (x : Bytes) → num x < 4_096 → (t : Bool) → mem x ps ≡ t → Open stop (suc r) (blockEnd w₂ (num x)) (t || mem x vs)
       view x l true m = record { far = λ _. q .bound x l m; closed = λ e. absurd (true≢false e) }
       view x l false m =
-          let o = p .after .row .view x l in
+          let o = p .after .view x l in
           let e = q .other x l m in
           record { far = λ t. omega (arith, o .far t); closed = λ t. omega (arith, o .closed t) }
 
@@ -214,14 +211,14 @@ module _ {text : Bytes} {rows : List Row} {num : Bytes → ℕ} {ns : List Note}
           back-def w t g e viewed (entry-def g o) stamped (reopened-at text s w (home ∙ ap homeNumber e))
 
   -- ---- a block in it, from row r up to the row stop: the walk bound or noted something at its row, went in, walked its body and came back
-  pub nested : {st st₁ st₂ st₃ : State} {seen fs gs : List Fault} {w w₁ w₂ w₃ : List ℕ} {r stop : ℕ} {ps : List Part} {ns′ : List Note} {s′ : ScopeStack} {v′ : Env}
-      → Ready text num b st seen w r → Done text rows num ns s v st st₁ seen fs w w₁ r (suc r) → Entry num r stop ps w₁ w₂
-      → s′ .block ≡ r → s′ .end ≡ stop → Flat s′ v′ → Done text rows num ns′ s′ v′ st₂ st₃ (seenAfter seen fs) gs w₂ w₃ (suc r) stop → stop ≤ s .end
-      → Right ns v (st₁ .assigned) stop → Done text rows num ns s v st st₁ seen (fs ++ gs) w (reopened text s w₃) r stop
-  nested {st} {st₁} {st₂} {st₃} {seen} {fs} {gs} {w} {w₁} {w₂} {w₃} {r} {stop} {ps} {ns′} {s′} {v′} h p q row end flat d inner right =
+  pub nested : {us vs zs : List Part} {seen fs gs : List Fault} {w w₁ w₂ w₃ : List ℕ} {r stop : ℕ} {ps : List Part} {ns′ : List Note} {s′ : ScopeStack} {v′ : Env}
+      → Ready text num b us seen w r → Done text rows num ns s v vs seen fs w w₁ r (suc r) → Entry num r stop ps w₁ w₂
+      → s′ .block ≡ r → s′ .end ≡ stop → Flat s′ v′ → Done text rows num ns′ s′ v′ zs (seenAfter seen fs) gs w₂ w₃ (suc r) stop → stop ≤ s .end
+      → Done text rows num ns s v vs seen (fs ++ gs) w (reopened text s w₃) r stop
+  nested {us} {vs} {zs} {seen} {fs} {gs} {w} {w₁} {w₂} {w₃} {r} {stop} {ps} {ns′} {s′} {v′} h p q row end flat d inner =
       record {
         far = omega (arith, d .far);
-        after = subst (λ l. At text rows num ns s [] v st₁ l w₄ stop) (sym (seen-append seen fs gs)) at;
+        after = subst (λ l. At text rows num ns s [] v vs l w₄ stop) (sym (seen-append seen fs gs)) at;
         slots =
             slots-then w₁ w₄ seen fs gs (p .far) (d .far) before (p .slots)
             (slots-same w₃ w₄ (suc r) (stop - suc r) (λ i l. z .slots i (omega (arith, b .room, few))) ∙ d .slots);
@@ -238,7 +235,7 @@ module _ {text : Bytes} {rows : List Row} {num : Bytes → ℕ} {ns : List Note}
       w₄ = reopened text s w₃
 
       few : length rows ≤ 4_096
-      few = h .at .row .table .few
+      few = h .at .table .few
 
       -- the stamps of the def around are old ones
       old : (x : Bytes) → num x < 4_096 → (c : ℕ) → c < r → stampAt w₃ (num x) / 8_192 ≡ c + 1 → stampAt w₃ (num x) ≡ stampAt w₁ (num x)
@@ -251,7 +248,7 @@ module _ {text : Bytes} {rows : List Row} {num : Bytes → ℕ} {ns : List Note}
           go (inr k) g = absurd (omega arith)
 
       z : Back num ns s v w₃ w₄
-      z = back w₃ (d .after .row .table) (d .after .row .words) (h .at .row .home) (λ i. stamped-fair w₁ w₃ (λ x l e. old x l (s .block) (h .past i) e) (p .after .row .own i))
+      z = back w₃ (d .after .table) (d .after .words) (h .at .home) (λ i. stamped-fair w₁ w₃ (λ x l e. old x l (s .block) (h .past i) e) (p .after .own i))
           (λ i x l m. omega (arith, h .viewed i x l m, p .change .blocks x l .up, q .blocks x l .up, d .change .blocks x l .up))
 
       kept : Kept w₁ w₄
@@ -281,23 +278,20 @@ module _ {text : Bytes} {rows : List Row} {num : Bytes → ℕ} {ns : List Note}
       low x l (inl k) = omega (arith, d .after .low x l)
       low x l (inr k) = omega (arith, h .past (k .0), d .far, k .1)
 
-      at : At text rows num ns s [] v st₁ (seenAfter (seenAfter seen fs) gs) w₄ stop
+      at : At text rows num ns s [] v vs (seenAfter (seenAfter seen fs) gs) w₄ stop
       at = record {
-        row = record {
-          table = table-kept kept (p .after .row .table);
-          words = z .words;
-          home = h .at .row .home;
-          view = λ x l. open-raised (p .after .row .view x l) (d .far) (raised x l);
-          params = λ x l. record {
-            far = λ _. omega (arith, b .flat .inner);
-            closed = λ e. omega (arith, z .lambdas x l, d .after .row .params x l .closed (ap (λ ps. mem x ps || blamed 0 (seenAfter (seenAfter seen fs) gs) x) (flat .params ∙ sym (b .flat .params)) ∙ e));
-          };
-          own = z .own;
-          locals = h .at .row .locals;
-          others = h .at .row .others;
-          clean = λ i l k. z .slots i (omega (arith, few)) ∙ d .after .row .clean i l k;
-          places = d .after .row .places;
+        table = table-kept kept (p .after .table);
+        words = z .words;
+        home = h .at .home;
+        view = λ x l. open-raised (p .after .view x l) (d .far) (raised x l);
+        params = λ x l. record {
+          far = λ _. omega (arith, b .flat .inner);
+          closed = λ e. omega (arith, z .lambdas x l, d .after .params x l .closed (ap (λ ps. mem x ps || blamed 0 (seenAfter (seenAfter seen fs) gs) x) (flat .params ∙ sym (b .flat .params)) ∙ e));
         };
-        assigned = right;
+        own = z .own;
+        locals = h .at .locals;
+        others = h .at .others;
         low = λ x l. low x l (z .stamps x l);
+        clean = λ i l k. z .slots i (omega (arith, few)) ∙ d .after .clean i l k;
+        places = d .after .places;
       }

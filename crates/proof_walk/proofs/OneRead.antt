@@ -92,23 +92,23 @@ method-def e = let z : _≡_ {A = ℕ} 0 1 = cc in omega arith
 
 module _ {text : Bytes} {rows : List Row} {num : Bytes → ℕ} {ns : List Note} {s : ScopeStack} {ls : List Placed} {v : Env} {st : State} {seen : List Fault} {w : List ℕ} {r : ℕ} (p : Stands text rows num ns s ls v st seen w r) {stop : ℕ} (c : Around rows ns s ls v st r stop) (on : r < stop) (x : Bytes) (small : num x < 4_096) where
   test-param : ltb r (lambdaEnd w (num x)) ≡ (mem x (v .params) || blamed (placeOf ls) seen x)
-  test-param = open-test (s .inner) r (lambdaEnd w (num x)) _ (p .row .params x small) (open-before (c .lambdas) on seen x (p .row .places))
+  test-param = open-test (s .inner) r (lambdaEnd w (num x)) _ (p .at .params x small) (open-before (c .lambdas) on seen x (p .at .places))
 
   test-view : isDefined w (num x) r ≡ mem x (st .view)
-  test-view = open-test (s .end) r (blockEnd w (num x)) (mem x (st .view)) (p .row .view x small) (λ _. let i = c .inside in omega arith)
+  test-view = open-test (s .end) r (blockEnd w (num x)) (mem x (st .view)) (p .at .view x small) (λ _. let i = c .inside in omega arith)
 
   none-own : (h : Home) → (h ≡ inDef → ⊥) → v .home ≡ h → mem x (v .locals) ≡ false
-  none-own h n e = p .row .others (λ d. n (sym e ∙ d)) x
+  none-own h n e = p .at .others (λ d. n (sym e ∙ d)) x
 
   test-own : isOwn s w (num x) ≡ mem x (v .locals)
   test-own = go (v .home) refl
     where
       home : (h : Home) → v .home ≡ h → isOwn s w (num x) ≡ (eqb (homeNumber h) aDef && eqb (stampAt w (num x) / 8_192) (s .block + 1))
-      home h e = ap (λ k. eqb k aDef && eqb (stampAt w (num x) / 8_192) (s .block + 1)) (p .row .home ∙ ap homeNumber e)
+      home h e = ap (λ k. eqb k aDef && eqb (stampAt w (num x) / 8_192) (s .block + 1)) (p .at .home ∙ ap homeNumber e)
 
       go : (h : Home) → v .home ≡ h → isOwn s w (num x) ≡ mem x (v .locals)
       go inModule e = home inModule e ∙ sym (none-own inModule module-def e)
-      go inDef e = home inDef e ∙ (p .row .own e .own x small ∙ sym (p .row .locals e x))
+      go inDef e = home inDef e ∙ (p .at .own e .own x small ∙ sym (p .at .locals e x))
       go inMethod e = home inMethod e ∙ sym (none-own inMethod method-def e)
 
   -- a name of its own: the home is a def
@@ -123,9 +123,9 @@ module _ {text : Bytes} {rows : List Row} {num : Bytes → ℕ} {ns : List Note}
   test-assigned : mem x (v .locals) ≡ true → ltb r (stampAt w (num x) % 8_192) ≡ not (mem x (st .assigned))
   test-assigned o =
       let d = own-home o in
-      let l : r < 8_191 = omega (arith, c .inside, c .ends, p .row .table .few) in
+      let l : r < 8_191 = omega (arith, c .inside, c .ends, p .at .table .few) in
       not-leb (stampAt w (num x) % 8_192) r
-      ∙ ap not (p .row .own d .first x small (sym (p .row .locals d x) ∙ o) r l ∙ sym (c .still d x r (omega arith) on))
+      ∙ ap not (p .at .own d .first x small (sym (p .at .locals d x) ∙ o) r l ∙ sym (c .still d x r (omega arith) on))
 
 -- ---- the fault of a read
 module _ {text : Bytes} {rows : List Row} {num : Bytes → ℕ} {ns : List Note} {s : ScopeStack} {ls : List Placed} {v : Env} {st : State} {seen : List Fault} {w : List ℕ} {r : ℕ} (p : Stands text rows num ns s ls v st seen w r) (l : Line) (few : r < 4_096) (k : ℕ) (some : 0 < k) (most : k < 16) (q : Placed) where
@@ -133,7 +133,7 @@ module _ {text : Bytes} {rows : List Row} {num : Bytes → ℕ} {ns : List Note}
   fault = faultAt k q (record { number = suc (suc r); line = l })
 
   slot-of : (z : List ℕ) → slotAt z r ≡ slotAt (putSlot w r k) r → slotsFrom z r 1 ≡ keys (fault ∷ [])
-  slot-of z e = ap (λ i. keyOf (suc (suc r)) i ++ []) (e ∙ slot-same w r k (p .row .table .room) few most) ∙ ap (λ i. i ++ []) (key-some (suc (suc r)) k some)
+  slot-of z e = ap (λ i. keyOf (suc (suc r)) i ++ []) (e ∙ slot-same w r k (p .at .table .room) few most) ∙ ap (λ i. i ++ []) (key-some (suc (suc r)) k some)
 
   -- of the kinds 8, 9, 11 and 12
   plain-fault : capture k ≡ false → Step num s ls v st seen r 1 w (putSlot w r k) (fault ∷ [])
@@ -142,7 +142,7 @@ module _ {text : Bytes} {rows : List Row} {num : Bytes → ℕ} {ns : List Note}
       let e : seenAfter seen (fault ∷ []) ≡ seen = ap (λ t. cond t (cond (blamed (q .number) seen (l .name .bytes)) seen (fault ∷ seen)) seen) c in
       record {
         kept = kept-slot w r k;
-        words = words-slot w r k (p .row .words);
+        words = words-slot w r k (p .at .words);
         slots = slot-of (putSlot w r k) refl ∙ ap keys (sym d);
         before = λ i j. slot-other w r k i (λ g. omega arith);
         beyond = λ i j. slot-other w r k i (λ g. omega arith);
@@ -153,7 +153,7 @@ module _ {text : Bytes} {rows : List Row} {num : Bytes → ℕ} {ns : List Note}
         most = λ x j. omega (arith, slot-lambda w r k (num x) j);
         far = λ x j b. omega (arith, slot-lambda w r k (num x) j, p .far x j (ap (λ t. blamed (placeOf ls) t x) (sym e) ∙ b));
         captured = λ x b. p .captured x (ap (λ t. blamed (placeOf ls) t x) (sym e) ∙ b);
-        places = subst (Places (r + 1)) (sym e) (places-on (omega arith) seen (p .row .places));
+        places = subst (Places (r + 1)) (sym e) (places-on (omega arith) seen (p .at .places));
       }
 
   -- of the kinds 10 and 13: the outermost lambda is blamed for the name
@@ -165,13 +165,13 @@ module _ {text : Bytes} {rows : List Row} {num : Bytes → ℕ} {ns : List Note}
     mark-same : (x : Bytes) → same x (l .name .bytes) ≡ true → lambdaEnd raised (num x) ≡ max (lambdaEnd w (num x)) (s .outer)
     mark-same x e =
         let h : lambdaEnd raised (num (l .name .bytes)) ≡ max (lambdaEnd w (num (l .name .bytes))) (s .outer) =
-        raised-lambda-same (putSlot w r k) (num (l .name .bytes)) (s .outer) (omega (arith, p .row .table .room, kept-slot w r k .long)) small (omega (arith, deep .few))
+        raised-lambda-same (putSlot w r k) (num (l .name .bytes)) (s .outer) (omega (arith, p .at .table .room, kept-slot w r k .long)) small (omega (arith, deep .few))
         ∙ ap (λ m. max m (s .outer)) (slot-lambda w r k (num (l .name .bytes)) small) in
         subst (λ y. lambdaEnd raised (num y) ≡ max (lambdaEnd w (num y)) (s .outer)) (sym (same-eq x (l .name .bytes) e)) h
 
     mark-other : (x : Bytes) → num x < 4_096 → same x (l .name .bytes) ≡ false → lambdaEnd raised (num x) ≡ lambdaEnd w (num x)
     mark-other x j e =
-        raised-lambda-other (putSlot w r k) (num (l .name .bytes)) (s .outer) (num x) (λ d. same-false x (l .name .bytes) e (p .row .table .apart x (l .name .bytes) j d))
+        raised-lambda-other (putSlot w r k) (num (l .name .bytes)) (s .outer) (num x) (λ d. same-false x (l .name .bytes) e (p .at .table .apart x (l .name .bytes) j d))
         ∙ slot-lambda w r k (num x) j
 
     -- it is blamed now, and else who was
@@ -198,7 +198,7 @@ module _ {text : Bytes} {rows : List Row} {num : Bytes → ℕ} {ns : List Note}
         λ x h. now x ∙ ap (λ t. t || blamed (placeOf ls) seen x) h in
         record {
           kept = kept-trans (kept-slot w r k) (kept-raised-lambda (putSlot w r k) _ _);
-          words = words-raised-lambda (putSlot w r k) _ _ (words-slot w r k (p .row .words));
+          words = words-raised-lambda (putSlot w r k) _ _ (words-slot w r k (p .at .words));
           slots = slot-of raised (raised-lambda-slot (putSlot w r k) _ _ r) ∙ ap keys (sym d);
           before = λ i j. raised-lambda-slot (putSlot w r k) _ _ i ∙ slot-other w r k i (λ g. omega arith);
           beyond = λ i j. raised-lambda-slot (putSlot w r k) _ _ i ∙ slot-other w r k i (λ g. omega arith);
@@ -211,7 +211,7 @@ module _ {text : Bytes} {rows : List Row} {num : Bytes → ℕ} {ns : List Note}
           most = λ x j. by-name x (λ h. omega (arith, mark-same x h)) (λ h. omega (arith, mark-other x j h));
           far = λ x j g. by-name x (λ h. omega (arith, mark-same x h)) (λ h. omega (arith, mark-other x j h, p .far x j (sym (old x h) ∙ g)));
           captured = λ x g. by-name x (λ h. subst (Captured (v .home) (v .locals) st) (sym (same-eq x (l .name .bytes) h)) y) (λ h. p .captured x (sym (old x h) ∙ g));
-          places = subst (Places (r + 1)) (sym e) ((deep .lined, let i = deep .early in omega arith), places-on (omega arith) seen (p .row .places));
+          places = subst (Places (r + 1)) (sym e) ((deep .lined, let i = deep .early in omega arith), places-on (omega arith) seen (p .at .places));
         }
 
 -- ---- a read
@@ -231,7 +231,7 @@ module _ {text : Bytes} {rows : List Row} {num : Bytes → ℕ} {ns : List Note}
   blamed-step : {ls : List Placed} {stop : ℕ} → Stands text rows num ns s ls v st seen w r → Under s v r stop ls → blamed (placeOf ls) seen (l .name .bytes) ≡ true
       → slotAt w r ≡ 0 → (u : Use) → Captured (v .home) (v .locals) st (l .name .bytes)
       → Step num s ls v st seen r 1 w w (judgeRead (v .home) ls u (readAt r l) false (mem (l .name .bytes) (v .locals)) (mem (l .name .bytes) (st .assigned)) (mem (l .name .bytes) (st .view)))
-  blamed-step p (flat f) b c u y = absurd (false≢true (sym (none-blamed (l .name .bytes) r seen (p .row .places)) ∙ b))
+  blamed-step p (flat f) b c u y = absurd (false≢true (sym (none-blamed (l .name .bytes) r seen (p .at .places)) ∙ b))
   blamed-step p (under {q} {qs} d) b c u (notAssigned h o a) =
       subst (Step num s (q ∷ qs) v st seen r 1 w w)
       (sym (ap₂ (λ o a. judgeRead (v .home) (q ∷ qs) u (readAt r l) false o a (mem (l .name .bytes) (st .view))) o a))
@@ -273,7 +273,7 @@ module _ {text : Bytes} {rows : List Row} {num : Bytes → ℕ} {ns : List Note}
       subst (λ t. Step num s (q ∷ qs) v st seen r 1 w (faulted s (num (l .name .bytes)) r (cond t (cond called 9 8) (cond (eqb (s .home) module′) 10 (cond called 9 8))) w) (undefined h (q ∷ qs) u (readAt r l) ∷ []))
       (sym (ne-eqb (s .outer) 0 (λ z. omega (arith, d .some))))
       (subst (λ n. Step num s (q ∷ qs) v st seen r 1 w (faulted s (num (l .name .bytes)) r (cond (eqb n module′) 10 (cond called 9 8)) w) (undefined h (q ∷ qs) u (readAt r l) ∷ []))
-      (sym (p .row .home ∙ ap homeNumber e))
+      (sym (p .at .home ∙ ap homeNumber e))
       (go h e a))
     where
       go : (h : Home) → v .home ≡ h → {called : Bool} {u : Use} → CalledAs called u
@@ -310,10 +310,10 @@ module _ {text : Bytes} {rows : List Row} {num : Bytes → ℕ} {ns : List Note}
       (go (mem (l .name .bytes) (v .params)) (blamed (placeOf ls) seen (l .name .bytes)) (mem (l .name .bytes) (v .locals)) (mem (l .name .bytes) (st .assigned)) (mem (l .name .bytes) (st .view)) refl refl refl refl)
     where
       few : r < 4_096
-      few = omega (arith, c .inside, c .ends, p .row .table .few)
+      few = omega (arith, c .inside, c .ends, p .at .table .few)
 
       clean : slotAt w r ≡ 0
-      clean = p .row .clean r (omega arith) (omega (arith, c .inside, c .ends))
+      clean = p .at .clean r (omega arith) (omega (arith, c .inside, c .ends))
 
       quiet : Step num s ls v st seen r 1 w w []
       quiet = step-quiet p 1 [] (ap (λ i. keyOf (suc (suc r)) i ++ []) clean) refl refl

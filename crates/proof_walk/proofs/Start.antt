@@ -16,7 +16,7 @@ use Rattle.spec_text.specs.Tree.{Tree, snil, lenSs, firstLine}
 use Rattle.spec_text.proofs.Lists.{and-split, same-eq}
 use Rattle.spec_faults.specs.Position.{inModule, inDef}
 use Rattle.spec_faults.specs.Builtins.{builtinNames}
-use Rattle.spec_faults.proofs.ListingWalk.{State, afterSs, moduleEnv, startState}
+use Rattle.spec_faults.proofs.ListingWalk.{afterSs, moduleEnv, startState}
 use Rattle.spec_faults.proofs.Lists.{mem-append}
 use Rattle.spec_faults.proofs.TextWalk.{rawSs}
 use Rattle.work_rows.specs.Layout.{put, rowsMost, headBase, numberAt, afterRow}
@@ -149,54 +149,48 @@ mem-past x p (q ∷ ps) qs =
     ∙ ap (λ t. t || mem x (ps ++ qs)) (or-comm (same x (q .bytes)) (same x (p .bytes))) ∙ or-assoc (same x (p .bytes)) (same x (q .bytes)) (mem x (ps ++ qs))
 
 -- rows of the module before the first statement, with these names in view
-abbrev viewing : List Part → State
-viewing ps = record { view = ps; assigned = [] }
-
 module _ (text : Bytes) (rows : List Row) (num : Bytes → ℕ) where
-  abbrev G : List Part → List Part → List ℕ → List ℕ → Type 0
-  G ps qs w v = Done text rows num [] (atModule (length rows)) moduleEnv (viewing ps) (viewing qs) [] [] w v 0 0
+  abbrev G : List Part → List ℕ → List ℕ → Type 0
+  G vs w v = Done text rows num [] (atModule (length rows)) moduleEnv vs [] [] w v 0 0
 
   abbrev A : List Part → List ℕ → Type 0
-  A ps w = At text rows num [] (atModule (length rows)) [] moduleEnv (viewing ps) [] w 0
+  A vs w = At text rows num [] (atModule (length rows)) [] moduleEnv vs [] w 0
 
   none : {B : Type 0} → inModule ≡ inDef → B
   none i = absurd (omega (arith, ap homeNumber i))
 
   -- of the names in view, only those count that have a number, and in any order
-  view-same : {ps qs rs : List Part} {w v : List ℕ} → ((x : Bytes) → num x < 4_096 → mem x qs ≡ mem x rs) → G ps qs w v → G ps rs w v
+  view-same : {qs rs : List Part} {w v : List ℕ} → ((x : Bytes) → num x < 4_096 → mem x qs ≡ mem x rs) → G qs w v → G rs w v
   view-same {v = v} e d = record {
     far = d .far;
     after = record {
-      row = record {
-        table = d .after .row .table;
-        words = d .after .row .words;
-        home = d .after .row .home;
-        view = λ x l. subst (Open (length rows) 0 (blockEnd v (num x))) (e x l) (d .after .row .view x l);
-        params = d .after .row .params;
-        own = d .after .row .own;
-        locals = d .after .row .locals;
-        others = d .after .row .others;
-        clean = d .after .row .clean;
-        places = d .after .row .places;
-      };
-      assigned = d .after .assigned;
+      table = d .after .table;
+      words = d .after .words;
+      home = d .after .home;
+      view = λ x l. subst (Open (length rows) 0 (blockEnd v (num x))) (e x l) (d .after .view x l);
+      params = d .after .params;
+      own = d .after .own;
+      locals = d .after .locals;
+      others = d .after .others;
       low = d .after .low;
+      clean = d .after .clean;
+      places = d .after .places;
     };
     slots = d .slots;
     change = d .change;
   }
 
-  stays : {ps : List Part} {w : List ℕ} → A ps w → G ps ps w w
-  stays h = done-skip h [] (omega arith) (omega arith) none
+  stays : {ps : List Part} {w : List ℕ} → A ps w → G ps w w
+  stays h = done-skip h (omega arith) (omega arith)
 
-  bind-one : (p : Part) {ps : List Part} {w : List ℕ} → A ps w → G ps (p ∷ ps) w (defined (atModule (length rows)) w (num (p .bytes)))
+  bind-one : (p : Part) {ps : List Part} {w : List ℕ} → A ps w → G (p ∷ ps) w (defined (atModule (length rows)) w (num (p .bytes)))
   bind-one p {ps} {w} h = go (ltb (num (p .bytes)) 4_096) refl
     where
-      go : (t : Bool) → ltb (num (p .bytes)) 4_096 ≡ t → G ps (p ∷ ps) w (defined (atModule (length rows)) w (num (p .bytes)))
-      go true e = done-bind h p [] refl (omega (arith, h .row .table .few)) (ltb-true (num (p .bytes)) 4_096 e) (omega arith) (omega arith) none
+      go : (t : Bool) → ltb (num (p .bytes)) 4_096 ≡ t → G (p ∷ ps) w (defined (atModule (length rows)) w (num (p .bytes)))
+      go true e = done-bind h p refl (omega (arith, h .table .few)) (ltb-true (num (p .bytes)) 4_096 e) (omega arith) (omega arith)
       go false e =
           let l : 4_096 ≤ num (p .bytes) = ltb-false (num (p .bytes)) 4_096 e in
-          subst (G ps (p ∷ ps) w) (sym (defined-none (atModule (length rows)) w (num (p .bytes)) refl l))
+          subst (G (p ∷ ps) w) (sym (defined-none (atModule (length rows)) w (num (p .bytes)) refl l))
           (view-same (λ x m. ap (λ t. t || mem x ps) (sym (other x m l (same x (p .bytes)) refl))) (stays h))
         where
           other : (x : Bytes) → num x < 4_096 → 4_096 ≤ num (p .bytes) → (t : Bool) → same x (p .bytes) ≡ t → t ≡ false
@@ -204,26 +198,26 @@ module _ (text : Bytes) (rows : List Row) (num : Bytes → ℕ) where
           other x m l false q = refl
 
   -- a name before others
-  bind-then : (p : Part) (ps : List Part) {qs : List Part} {w v z : List ℕ} → G qs (p ∷ qs) w v → G (p ∷ qs) (ps ++ (p ∷ qs)) v z → G qs ((p ∷ ps) ++ qs) w z
+  bind-then : (p : Part) (ps : List Part) {qs : List Part} {w v z : List ℕ} → G (p ∷ qs) w v → G (ps ++ (p ∷ qs)) v z → G ((p ∷ ps) ++ qs) w z
   bind-then p ps {qs} d e = view-same (λ x _. mem-past x p ps qs) (done-then d e)
 
   -- the built-in names
-  given-done : (ps : List Part) → Somes ps → {qs : List Part} {w : List ℕ} → A qs w → G qs (ps ++ qs) w (given text (atModule (length rows)) (map (λ (p : Part). p .bytes) ps) w)
+  given-done : (ps : List Part) → Somes ps → {qs : List Part} {w : List ℕ} → A qs w → G (ps ++ qs) w (given text (atModule (length rows)) (map (λ (p : Part). p .bytes) ps) w)
   unfolding given
   given-done [] c h = stays h
   given-done (p ∷ ps) c {qs} {w} h =
-      let d : G qs (p ∷ qs) w (defined (atModule (length rows)) w (lookup text w (p .bytes))) =
-      subst (λ a. G qs (p ∷ qs) w (defined (atModule (length rows)) w a)) (sym (h .row .table .found (p .bytes) (c .0))) (bind-one p h) in
+      let d : G (p ∷ qs) w (defined (atModule (length rows)) w (lookup text w (p .bytes))) =
+      subst (λ a. G (p ∷ qs) w (defined (atModule (length rows)) w a)) (sym (h .table .found (p .bytes) (c .0))) (bind-one p h) in
       bind-then p ps d (given-done ps (c .1) (d .after))
 
   -- and those of `global` lines
   globals-done : (ps : List Part) (i : ℕ) (part : List Row) → Somes ps → Here rows i (map globalRow ps ++ part) → {qs : List Part} {w : List ℕ} → A qs w
-      → G qs (ps ++ qs) w (globalsFrom (length ps) i (atModule (length rows)) w)
+      → G (ps ++ qs) w (globalsFrom (length ps) i (atModule (length rows)) w)
   unfolding globalsFrom
   globals-done [] i part c here h = stays h
   globals-done (p ∷ ps) i part c here {qs} {w} h =
-      let d : G qs (p ∷ qs) w (defined (atModule (length rows)) w (numberAt w i)) =
-      subst (λ a. G qs (p ∷ qs) w (defined (atModule (length rows)) w a)) (sym (row-number (h .row .table) here (c .0))) (bind-one p h) in
+      let d : G (p ∷ qs) w (defined (atModule (length rows)) w (numberAt w i)) =
+      subst (λ a. G (p ∷ qs) w (defined (atModule (length rows)) w a)) (sym (row-number (h .table) here (c .0))) (bind-one p h) in
       bind-then p ps d (globals-done ps (i + 1) part (c .1) (subst (λ j. Here rows j (map globalRow ps ++ part)) (sym (add-one i)) (here-tail here)) (d .after))
 
 -- ---- the whole walk: its rows hold the tree; numbers of names are rows; no mark of a lambda is open
@@ -248,27 +242,24 @@ module _ (text : Bytes) (t : Tree) (num : Bytes → ℕ) (w : List ℕ) (table :
       let few = table .few in
       let z = clears in
       record {
-        row = record {
-          table = table-kept (z .kept) table;
-          words = z .words;
-          home = refl;
-          view = λ x l. record { far = λ e. absurd (false≢true e); closed = λ _. omega (arith, z .heads (num x) (omega arith) (omega (arith, small x l))) };
-          params = λ x l. record { far = λ e. absurd (false≢true e); closed = λ _. omega (arith, z .lambdas (num x) l, closed (num x) (small x l)) };
-          own = λ i. none text (rowsT t) num i;
-          locals = λ i. none text (rowsT t) num i;
-          others = λ _ x. refl;
-          clean = λ i _ l. omega (arith, z .heads i (omega arith) (omega arith));
-          places = tt;
-        };
-        assigned = λ i. none text (rowsT t) num i;
+        table = table-kept (z .kept) table;
+        words = z .words;
+        home = refl;
+        view = λ x l. record { far = λ e. absurd (false≢true e); closed = λ _. omega (arith, z .heads (num x) (omega arith) (omega (arith, small x l))) };
+        params = λ x l. record { far = λ e. absurd (false≢true e); closed = λ _. omega (arith, z .lambdas (num x) l, closed (num x) (small x l)) };
+        own = λ i. none text (rowsT t) num i;
+        locals = λ i. none text (rowsT t) num i;
+        others = λ _ x. refl;
         low = λ x l. omega (arith, z .stamps (num x) (omega arith) (omega (arith, small x l)));
+        clean = λ i _ l. omega (arith, z .heads i (omega arith) (omega arith));
+        places = tt;
       }
 
   everything : Here (rowsT t) 0 (rowsT t)
   everything = record { post = []; same = sym (append-nil (rowsT t)) }
 
   -- the given names are in view
-  bound : G text (rowsT t) num [] (builtinNames ++ t .globals) (fresh R 0 w) started
+  bound : G text (rowsT t) num (builtinNames ++ t .globals) (fresh R 0 w) started
   unfolding begun
   bound =
       let b = given-done text (rowsT t) num builtinNames (somes builtinNames refl) empty in
@@ -286,14 +277,14 @@ module _ (text : Bytes) (t : Tree) (num : Bytes → ℕ) (w : List ℕ) (table :
       let z : 0 + first ≡ first = omega arith in
       subst (λ i. Here (rowsT t) i (rowsSs (t .body))) z (here-past {a = map globalRow (t .globals)} (record { count = length-map (t .globals) globalRow }) (rowsSs (t .body)) everything)
 
-  pub statements : Done text (rowsT t) num [] (atModule R) moduleEnv (startState t) (afterSs (t .body) (startState t)) [] (rawSs (t .body) (firstLine t) [] moduleEnv (startState t))
+  pub statements : Done text (rowsT t) num [] (atModule R) moduleEnv (afterSs (t .body) (startState t) .view) [] (rawSs (t .body) (firstLine t) [] moduleEnv (startState t))
       started (walked text first R w) first (first + lenSs (t .body))
   unfolding walked
   statements =
       let size : R ≡ first + lenSs (t .body) = rows-length t in
       let few = table .few in
-      let top : Done text (rowsT t) num [] (atModule R) moduleEnv (startState t) (startState t) [] [] started started 0 first =
-      done-skip (bound .after) [] (omega arith) (omega arith) (none text (rowsT t) num) in
+      let top : Done text (rowsT t) num [] (atModule R) moduleEnv (startState t .view) [] [] started started 0 first =
+      done-skip (bound .after) (omega arith) (omega arith) in
       let b : Block (rowsT t) [] (atModule R) moduleEnv = record {
         flat = record { outer = refl; inner = refl; params = refl };
         room = omega arith;

@@ -11,7 +11,7 @@ use Rattle.spec_text.specs.Bytes.{Bytes, Part, mem, same, any}
 use Rattle.spec_faults.specs.Position.{Placed, Home, inModule, inDef, inMethod}
 use Rattle.spec_faults.specs.Faults.{Fault, outermost}
 use Rattle.spec_faults.proofs.Lists.{Each}
-use Rattle.spec_faults.proofs.ListingWalk.{State, Env}
+use Rattle.spec_faults.proofs.ListingWalk.{Env}
 use Rattle.work_rows.specs.Rows.{Row}
 use Rattle.work_marks.specs.MarksModel.{lambdaEnd, blockEnd, slotAt, stampAt}
 use Rattle.work_marks.proofs.Writes.{Words}
@@ -58,8 +58,8 @@ placeOf (p ∷ ps) = outermost p ps .number
 abbrev pub Places : ℕ → List Fault → Type 0
 Places r seen = Each (λ (g : Fault). (0 < g .place) × (g .place < suc (suc r))) seen
 
--- at row r, where the names vs are in view: all but what is assigned
-pub record AtRow (text : Bytes) (rows : List Row) (num : Bytes → ℕ) (ns : List Note) (s : ScopeStack) (ls : List Placed) (v : Env) (vs : List Part) (seen : List Fault) (w : List ℕ) (r : ℕ) : Type 0 where
+-- at row r, where the names vs are in view
+pub record At (text : Bytes) (rows : List Row) (num : Bytes → ℕ) (ns : List Note) (s : ScopeStack) (ls : List Placed) (v : Env) (vs : List Part) (seen : List Fault) (w : List ℕ) (r : ℕ) : Type 0 where
   pub table : Table text rows num w
   pub words : Words w
   pub home : s .home ≡ homeNumber (v .home)
@@ -68,11 +68,6 @@ pub record AtRow (text : Bytes) (rows : List Row) (num : Bytes → ℕ) (ns : Li
   pub own : v .home ≡ inDef → Stamped num w (s .block) ns
   pub locals : v .home ≡ inDef → (x : Bytes) → mem x (v .locals) ≡ noteOf ns x
   pub others : (v .home ≡ inDef → ⊥) → (x : Bytes) → mem x (v .locals) ≡ false
+  pub low : (x : Bytes) → num x < 4_096 → stampAt w (num x) / 8_192 ≤ r
   pub clean : (i : ℕ) → r ≤ i → i < length rows → slotAt w i ≡ 0
   pub places : Places r seen
-
--- the same, with what is assigned
-pub record At (text : Bytes) (rows : List Row) (num : Bytes → ℕ) (ns : List Note) (s : ScopeStack) (ls : List Placed) (v : Env) (st : State) (seen : List Fault) (w : List ℕ) (r : ℕ) : Type 0 where
-  pub row : AtRow text rows num ns s ls v (st .view) seen w r
-  pub assigned : v .home ≡ inDef → (x : Bytes) → mem x (st .assigned) ≡ assignedBy ns x r
-  pub low : (x : Bytes) → num x < 4_096 → stampAt w (num x) / 8_192 ≤ r

@@ -8,7 +8,7 @@ use mathlib.Core.Bool.{Bool, true, false, cond, not, _&&_, false≢true}
 use mathlib.Core.List.{List, [], _∷_, _++_}
 use lib.Dec.{eqb}
 use lib.ListN.{length}
-use Rattle.spec_text.specs.Bytes.{Bytes, Part, mem}
+use Rattle.spec_text.specs.Bytes.{Bytes, Part}
 use Rattle.spec_text.specs.Tree.{Line, Expr, Exprs, var, node, access, tuple, call, lambda, enil, econs, lenE, lenEs}
 use Rattle.spec_faults.specs.Position.{inDef}
 use Rattle.spec_faults.specs.Faults.{Fault, refusedAt}
@@ -25,13 +25,13 @@ use Rattle.walk_scopes.specs.declared.ScopeStack.{ScopeStack}
 use Rattle.read_row.specs.Worded.{AccessWord, index, get, WordedE, WordedEs}
 use Rattle.walk_tree.specs.WalkModel.{nextTarget, targetAt, walkExpr}
 use Rattle.proof_walk.specs.Table.{Here}
-use Rattle.proof_walk.specs.Notes.{Note, notesT, notesTs, assignedBy}
+use Rattle.proof_walk.specs.Notes.{Note, notesT, notesTs}
 use Rattle.proof_walk.proofs.State.{At}
 use Rattle.proof_walk.proofs.PartRows.{here-tail, here-left, here-past, row-kind, row-after, row-number, row-small}
 use Rattle.proof_walk.proofs.WordTests.{node-test}
-use Rattle.proof_walk.proofs.Assigned.{Assigns, range-ts, still, end-t, targets-first, targets-rest, tuple-parts, none-still}
+use Rattle.proof_walk.proofs.Assigned.{Assigns, targets-first, targets-rest, tuple-parts, none-still}
 use Rattle.proof_walk.proofs.Exprs.{Flat, exprs-walked}
-use Rattle.proof_walk.proofs.Done.{Right, Done, Spans, done-then, done-skip, done-fault, done-bind, done-walked, done-to, Looped, looped-one, looped-then, looped-to}
+use Rattle.proof_walk.proofs.Done.{Done, Spans, done-then, done-skip, done-fault, done-bind, done-to, Looped, looped-one, looped-then, looped-to}
 
 -- ---- one row of the loop
 next-on : (w : List ℕ) (i : ℕ) → i < nextTarget w i
@@ -77,10 +77,6 @@ module _ (value : ℕ → List ℕ → List ℕ) (s : ScopeStack) (i : ℕ) (w :
       go false false false true p q y z n = absurd (false≢true n)
       go false false false false p q y z n = record { does = rw (p, q, y, z) refl; next = rw q refl }
 
--- at the first row of targets nothing new is assigned yet
-now-ts : {ns : List Note} {a : List Part} {i j : ℕ} (es : Exprs) → Assigns ns a (notesTs es i) i j → i + lenEs es ≤ j → (x : Bytes) → mem x a ≡ assignedBy ns x i
-now-ts {i = i} {j = j} es g p x = still g (range-ts es i i j (omega arith) p) x i (omega arith) (omega arith) (omega arith)
-
 -- ---- the loop
 abbrev pub turns : Bytes → ℕ → ScopeStack → ℕ → ℕ → List ℕ → List ℕ
 turns text k s stop r w = rowsTo nextTarget (targetAt (walkExpr k text false s) s) r stop w
@@ -93,57 +89,55 @@ turn text k s stop {r} {w = w} l t p q =
 
 module _ {text : Bytes} {rows : List Row} {num : Bytes → ℕ} {ns : List Note} {s : ScopeStack} {v : Env} (flat : Flat s v) (room : s .end ≤ length rows) (k stop : ℕ) (end : stop ≤ s .end) where
   -- a line of another kind
-  refused : (l : Line) (below : ℕ) (part : List Row) (r n : ℕ) {st : State} {seen : List Fault} {w : List ℕ} → n ≡ suc (suc r) → r + suc below ≤ stop → Here rows r (row l below ∷ part)
-      → noTarget (l .word) ≡ true → At text rows num ns s [] v st seen w r → Right ns v (st .assigned) (r + suc below)
-      → Looped text rows num ns s v (turns text k s stop) st st seen (refusedAt n l ∷ []) w r (r + suc below)
-  refused l below part r n {st} {seen} {w} q m here other h right =
+  refused : (l : Line) (below : ℕ) (part : List Row) (r n : ℕ) {vs : List Part} {seen : List Fault} {w : List ℕ} → n ≡ suc (suc r) → r + suc below ≤ stop → Here rows r (row l below ∷ part)
+      → noTarget (l .word) ≡ true → At text rows num ns s [] v vs seen w r
+      → Looped text rows num ns s v (turns text k s stop) vs seen (refusedAt n l ∷ []) w r (r + suc below)
+  refused l below part r n {w = w} q m here other h =
       looped-one
-      (turn text k s stop (omega arith) (turn-refused (walkExpr k text false s) s r w (ap noTarget (row-kind (h .row .table) here) ∙ other)) refl (row-after (h .row .table) here))
-      (done-fault h (refusedAt n l) refl q (omega arith) (omega arith) (omega arith) (omega arith) right)
+      (turn text k s stop (omega arith) (turn-refused (walkExpr k text false s) s r w (ap noTarget (row-kind (h .table) here) ∙ other)) refl (row-after (h .table) here))
+      (done-fault h (refusedAt n l) refl q (omega arith) (omega arith) (omega arith) (omega arith))
 
   mutual
     -- j is a row after the target
     pub target : (t : Expr) (r n j : ℕ) {st : State} {seen : List Fault} {w : List ℕ} → Spans (lenE t) k r n stop j
-        → Here rows r (rowsE t) → WordedE t → At text rows num ns s [] v st seen w r → (v .home ≡ inDef → Assigns ns (st .assigned) (notesT t r) r j)
-        → Looped text rows num ns s v (turns text k s stop) st (afterT t st) seen (rawT t n [] v st) w r (r + lenE t)
+        → Here rows r (rowsE t) → WordedE t → At text rows num ns s [] v (st .view) seen w r → (v .home ≡ inDef → Assigns ns (st .assigned) (notesT t r) r j)
+        → Looped text rows num ns s v (turns text k s stop) (afterT t st .view) seen (rawT t n [] v st) w r (r + lenE t)
     target (var l) r n j {st} {seen} {w} f here d h by =
-        let few = h .row .table .few in
+        let few = h .table .few in
         looped-one
-        (turn text k s stop (omega arith) (turn-var (walkExpr k text false s) s r w (row-kind (h .row .table) here ∙ d .0)) (ap (defined s w) (row-number (h .row .table) here (d .1))) (row-after (h .row .table) here))
-        (done-bind h (l .name) (l .name ∷ st .assigned) (flat .inner) (omega arith) (row-small (h .row .table) here (d .1)) (omega arith) (omega arith)
-        (λ i. end-t (var l) st (by i) (r + 1) (omega arith) (omega arith)))
+        (turn text k s stop (omega arith) (turn-var (walkExpr k text false s) s r w (row-kind (h .table) here ∙ d .0)) (ap (defined s w) (row-number (h .table) here (d .1))) (row-after (h .table) here))
+        (done-bind h (l .name) (flat .inner) (omega arith) (row-small (h .table) here (d .1)) (omega arith) (omega arith))
     target (node l es) r n j f here d h by =
-        refused l (lenEs es) (rowsEs es) r n (f .line) (f .inside) here (node-test noTarget refl (d .0)) h (λ i x. none-still (by i) x (r + suc (lenEs es)) (omega arith) (f .before))
+        refused l (lenEs es) (rowsEs es) r n (f .line) (f .inside) here (node-test noTarget refl (d .0)) h
     target (access l es) r n j {st} {seen} {w} f here d h by =
         let e : suc r + lenEs es ≡ r + suc (lenEs es) = omega arith in
-        let head : Done text rows num ns s v st st seen [] w w r (suc r) =
-        done-skip h (st .assigned) (omega arith) (omega arith) (λ i x. none-still (by i) x (suc r) (omega arith) (omega arith)) in
+        let head : Done text rows num ns s v (st .view) seen [] w w r (suc r) =
+        done-skip h (omega arith) (omega arith) in
         looped-one
-        (turn text k s stop (omega arith) (turn-access (walkExpr k text false s) s r w (d .0) (row-kind (h .row .table) here))
-        (ap₂ (λ i j. rowsTo afterRow (walkExpr k text false s) i j w) (add-one r) (row-after (h .row .table) here ∙ sym e)) (row-after (h .row .table) here))
+        (turn text k s stop (omega arith) (turn-access (walkExpr k text false s) s r w (d .0) (row-kind (h .table) here))
+        (ap₂ (λ i j. rowsTo afterRow (walkExpr k text false s) i j w) (add-one r) (row-after (h .table) here ∙ sym e)) (row-after (h .table) here))
         (done-to e (ap (λ i. rawEs es (suc i) [] v st) (sym (f .line))) (done-then head
-        (done-walked (st .assigned) refl (λ i x. none-still (by i) x (suc r + lenEs es) (omega arith) (omega arith))
-        (exprs-walked k (suc r) es (here-tail here) (d .1) (omega arith) (omega arith) room flat (head .after)
-        (λ i x z u y. none-still (by i) x z (omega arith) (omega arith))))))
+        (exprs-walked k (suc r) st flat (head .after) es (here-tail here) (d .1) (omega arith) (omega arith) room
+        (λ i x z u y. none-still (by i) x z (omega arith) (omega arith)))))
     target (tuple l es) r n j {st} {seen} {w} f here d h by =
-        let head : Done text rows num ns s v st st seen [] w w r (suc r) =
-        done-skip h (st .assigned) (omega arith) (omega arith) (λ i x. now-ts es (tuple-parts l es (by i)) (omega arith) x) in
+        let head : Done text rows num ns s v (st .view) seen [] w w r (suc r) =
+        done-skip h (omega arith) (omega arith) in
         looped-to (omega arith) refl (looped-then
-        (turn text k s stop (omega arith) (turn-tuple (walkExpr k text false s) s r w (row-kind (h .row .table) here ∙ d .0)) refl (add-one r)) head
+        (turn text k s stop (omega arith) (turn-tuple (walkExpr k text false s) s r w (row-kind (h .table) here ∙ d .0)) refl (add-one r)) head
         (targets es (suc r) (suc n) j (omega arith) (here-tail here) (d .1) (head .after) (λ i. tuple-parts l es (by i))))
     target (call l g es) r n j f here d h by =
-        refused l (lenE g + lenEs es) (rowsE g ++ rowsEs es) r n (f .line) (f .inside) here (ap noTarget (d .0)) h (λ i x. none-still (by i) x (r + suc (lenE g + lenEs es)) (omega arith) (f .before))
+        refused l (lenE g + lenEs es) (rowsE g ++ rowsEs es) r n (f .line) (f .inside) here (ap noTarget (d .0)) h
     target (lambda l e) r n j f here d h by =
-        refused l (lenE e) (rowsE e) r n (f .line) (f .inside) here (ap noTarget (d .0)) h (λ i x. none-still (by i) x (r + suc (lenE e)) (omega arith) (f .before))
+        refused l (lenE e) (rowsE e) r n (f .line) (f .inside) here (ap noTarget (d .0)) h
 
     targets : (es : Exprs) (r n j : ℕ) {st : State} {seen : List Fault} {w : List ℕ} → Spans (lenEs es) k r n stop j
-        → Here rows r (rowsEs es) → WordedEs es → At text rows num ns s [] v st seen w r → (v .home ≡ inDef → Assigns ns (st .assigned) (notesTs es r) r j)
-        → Looped text rows num ns s v (turns text k s stop) st (afterTs es st) seen (rawTs es n [] v st) w r (r + lenEs es)
+        → Here rows r (rowsEs es) → WordedEs es → At text rows num ns s [] v (st .view) seen w r → (v .home ≡ inDef → Assigns ns (st .assigned) (notesTs es r) r j)
+        → Looped text rows num ns s v (turns text k s stop) (afterTs es st .view) seen (rawTs es n [] v st) w r (r + lenEs es)
     targets enil r n j {st} {seen} {w} f here d h by =
         let e : r ≡ r + 0 = omega arith in
-        looped-one (ap (λ i. turns text k s stop i w) e) (done-skip h (st .assigned) (omega arith) (omega arith) (λ i x. none-still (by i) x (r + 0) (omega arith) (f .before)))
+        looped-one (ap (λ i. turns text k s stop i w) e) (done-skip h (omega arith) (omega arith))
     targets (econs e es) r n j {st} {seen} {w} f here d h by =
-        let first : Looped text rows num ns s v (turns text k s stop) st (afterT e st) seen (rawT e n [] v st) w r (r + lenE e) =
+        let first : Looped text rows num ns s v (turns text k s stop) (afterT e st .view) seen (rawT e n [] v st) w r (r + lenE e) =
         target e r n (r + lenE e) (omega arith) (here-left (rowsE e) (rowsEs es) here) (d .0) h (λ i. targets-first e es (f .before) (by i)) in
         looped-to (omega arith) refl (looped-then (first .goes) (first .done)
         (targets es (r + lenE e) (n + lenE e) j (omega arith) (here-past (sized-e e) (rowsEs es) here) (d .1)
