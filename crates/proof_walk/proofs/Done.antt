@@ -61,20 +61,18 @@ key-some : (n k : ℕ) → 0 < k → keyOf n k ≡ record { line = n; kind = k }
 key-some n zero p = absurd (omega arith)
 key-some n (suc k) p = refl
 
--- ---- what rows r to e do to the buffer, in the block of s
-pub record Change (num : Bytes → ℕ) (s : ScopeStack) (r e : ℕ) (w v : List ℕ) : Type 0 where
+-- ---- what rows from r on do to the buffer, in the block of s
+pub record Change (num : Bytes → ℕ) (s : ScopeStack) (r : ℕ) (w v : List ℕ) : Type 0 where
   pub kept : Kept w v
   pub before : (i : ℕ) → i < r → slotAt v i ≡ slotAt w i
   pub blocks : (x : Bytes) → num x < 4_096 → Raised (s .end) (blockEnd w (num x)) (blockEnd v (num x))
-  pub lambdas : (x : Bytes) → num x < 4_096 → Raised e (lambdaEnd w (num x)) (lambdaEnd v (num x))
   pub others : (x : Bytes) → num x < 4_096 → (c : ℕ) → c < r → (c ≡ s .block → ⊥) → stampAt v (num x) / 8_192 ≡ c + 1 → stampAt v (num x) ≡ stampAt w (num x)
 
-change-then : {num : Bytes → ℕ} {s : ScopeStack} {r m e : ℕ} {w v z : List ℕ} → r ≤ m → m ≤ e → Change num s r m w v → Change num s m e v z → Change num s r e w z
-change-then {num} {s} {r} {m} {e} {w} {v} {z} l k p q = record {
+change-then : {num : Bytes → ℕ} {s : ScopeStack} {r m : ℕ} {w v z : List ℕ} → r ≤ m → Change num s r w v → Change num s m v z → Change num s r w z
+change-then {num} {s} {r} {m} {w} {v} {z} l p q = record {
   kept = kept-trans (p .kept) (q .kept);
   before = λ i h. q .before i (omega arith) ∙ p .before i h;
   blocks = λ x h. raised-then (p .blocks x h) (q .blocks x h);
-  lambdas = λ x h. raised-then (raised-far k (p .lambdas x h)) (q .lambdas x h);
   others = λ x h c i d g.
       let old : stampAt z (num x) ≡ stampAt v (num x) = q .others x h c (omega arith) d g in
       old ∙ p .others x h c i d (ap (λ n. n / 8_192) (sym old) ∙ g);
@@ -85,7 +83,7 @@ pub record Done (text : Bytes) (rows : List Row) (num : Bytes → ℕ) (ns : Lis
   pub far : r ≤ e
   pub after : At text rows num ns s [] v vs (seenAfter seen fs) w′ e
   pub slots : slotsFrom w′ r (e - r) ≡ keys (dedupe seen fs)
-  pub change : Change num s r e w w′
+  pub change : Change num s r w w′
 
 -- a part of the text from row r on, whose line is n: the walk has the depth k for it, and it ends at the rows stop and j or before
 pub record Spans (size k r n stop j : ℕ) : Type 0 where
@@ -108,7 +106,7 @@ module _ {text : Bytes} {rows : List Row} {num : Bytes → ℕ} {ns : List Note}
     far = omega (arith, p .far, q .far);
     after = subst (λ l. At text rows num ns s [] v vs l w₂ e) (sym (seen-append seen fs gs)) (q .after);
     slots = slots-then w₁ w₂ seen fs gs (p .far) (q .far) (q .change .before) (p .slots) (q .slots);
-    change = change-then (p .far) (q .far) (p .change) (q .change);
+    change = change-then (p .far) (p .change) (q .change);
   }
 
   -- ---- rows that keep the stamps, and the captures seen
@@ -135,7 +133,6 @@ module _ {text : Bytes} {rows : List Row} {num : Bytes → ℕ} {ns : List Note}
         kept = n .kept;
         before = before;
         blocks = n .blocks;
-        lambdas = λ x l. raised-same (n .lambdas x l);
         others = λ x l c _ _ _. n .stamps (num x);
       };
     }

@@ -17,7 +17,6 @@ use Rattle.spec_faults.specs.Position.{Placed, Use, value, callee}
 use Rattle.spec_faults.specs.Faults.{Fault}
 use Rattle.spec_faults.proofs.ListingWalk.{State, Env}
 use Rattle.spec_faults.proofs.TextWalk.{rawE, rawEs}
-use Rattle.spec_faults.proofs.Deduped.{seenAfter}
 use Rattle.work_rows.specs.Layout.{rowsMost, kindAt, numberAt, afterRow}
 use Rattle.work_rows.specs.Rows.{Row, row, rowsE, rowsEs}
 use Rattle.work_rows.proofs.Lengths.{sized-e}
@@ -240,7 +239,6 @@ module _ {text : Bytes} {rows : List Row} {num : Bytes → ℕ} {ns : List Note}
       kept = c .kept;
       before = c .before;
       blocks = λ x l. raised-same (c .blocks (num x));
-      lambdas = λ x l. record { up = c .up x l; most = c .near x l (none-blamed x (r + n) (seenAfter seen fs) (c .places)) };
       others = λ x l i _ _ _. c .stamps (num x);
     };
   }

@@ -226,7 +226,6 @@ module _ {text : Bytes} {rows : List Row} {num : Bytes → ℕ} {ns : List Note}
           kept = kept-trans (p .change .kept) kept;
           before = λ i l. before i (omega arith) ∙ p .change .before i l;
           blocks = λ x l. raised-then (p .change .blocks x l) (raised-far inner (raised x l));
-          lambdas = λ x l. raised-then (raised-far (d .far) (p .change .lambdas x l)) (lambdas x l);
           others = λ x l c m n e. others x l c m n e (z .stamps x l);
         };
       }
@@ -262,9 +261,6 @@ module _ {text : Bytes} {rows : List Row} {num : Bytes → ℕ} {ns : List Note}
       raised : (x : Bytes) → num x < 4_096 → Raised stop (blockEnd w₁ (num x)) (blockEnd w₄ (num x))
       raised x l =
           raised-then (raised-then (q .blocks x l) (subst (λ e. Raised e (blockEnd w₂ (num x)) (blockEnd w₃ (num x))) end (d .change .blocks x l))) (raised-same (z .blocks x l))
-
-      lambdas : (x : Bytes) → num x < 4_096 → Raised stop (lambdaEnd w₁ (num x)) (lambdaEnd w₄ (num x))
-      lambdas x l = raised-then (raised-then (raised-same (q .lambdas x l)) (d .change .lambdas x l)) (raised-same (z .lambdas x l))
 
       others : (x : Bytes) → num x < 4_096 → (c : ℕ) → c < r → (c ≡ s .block → ⊥) → stampAt w₄ (num x) / 8_192 ≡ c + 1
           → (stampAt w₄ (num x) ≡ stampAt w₃ (num x)) ⊎ ((v .home ≡ inDef) × (stampAt w₄ (num x) / 8_192 ≡ s .block + 1)) → stampAt w₄ (num x) ≡ stampAt w (num x)
