@@ -207,86 +207,99 @@ module _ (x : Bytes) where
         after-two (st .assigned) (afterS s st .assigned) (afterSs ss (afterS s st) .assigned) (notesS s i) (notesSs ss (i + lenS s)) m (after-s s i m st (omega arith) q)
         (after-ss ss (i + lenS s) m (afterS s st) (omega arith) q)
 
--- ---- a part and its parts, in rows up to m
-module _ {ns : List Note} {i m : ℕ} where
+-- ---- a part and its parts
+module _ {ns : List Note} {i : ℕ} where
   -- a statement, and those after it
-  pub stmts-first : (s : Stmt) (ss : Stmts) {a : List Part} → i + lenSs (scons s ss) ≤ m → Assigns ns a (notesSs (scons s ss) i) i m → Assigns ns a (notesS s i) i (i + lenS s)
-  stmts-first s ss p g =
-      first (notesS s i) (notesSs ss (i + lenS s)) g (i + lenS s) (omega arith) (range-ss ss (i + lenS s) (i + lenS s) m (omega arith) (omega arith) (g .early))
+  module _ (s : Stmt) (ss : Stmts) where
+    pub stmts-first : {a : List Part} → Assigns ns a (notesSs (scons s ss) i) i (i + lenSs (scons s ss)) → Assigns ns a (notesS s i) i (i + lenS s)
+    stmts-first g =
+        first (notesS s i) (notesSs ss (i + lenS s)) g (i + lenS s) (omega arith)
+        (range-ss ss (i + lenS s) (i + lenS s) (i + lenS s + lenSs ss) (omega arith) (omega arith) (omega arith))
 
-  pub stmts-rest : (s : Stmt) (ss : Stmts) (st : State) → i + lenSs (scons s ss) ≤ m → Assigns ns (st .assigned) (notesSs (scons s ss) i) i m
-      → Assigns ns (afterS s st .assigned) (notesSs ss (i + lenS s)) (i + lenS s) m
-  stmts-rest s ss st p g =
-      rest (notesS s i) (notesSs ss (i + lenS s)) g (i + lenS s) (afterS s st .assigned) (omega arith) (range-s s i i (i + lenS s) (omega arith) (omega arith) (omega arith))
-      (λ x. after-s x s i (i + lenS s) st (omega arith) (omega arith))
+    pub stmts-rest : (st : State) → Assigns ns (st .assigned) (notesSs (scons s ss) i) i (i + lenSs (scons s ss))
+        → Assigns ns (afterS s st .assigned) (notesSs ss (i + lenS s)) (i + lenS s) (i + lenS s + lenSs ss)
+    stmts-rest st g =
+        cut (rest (notesS s i) (notesSs ss (i + lenS s)) g (i + lenS s) (afterS s st .assigned) (omega arith) (range-s s i i (i + lenS s) (omega arith) (omega arith) (omega arith))
+        (λ x. after-s x s i (i + lenS s) st (omega arith) (omega arith))) (i + lenS s) (i + lenS s + lenSs ss) (omega arith) (omega arith)
 
-  pub targets-first : (e : Expr) (es : Exprs) {a : List Part} → i + lenEs (econs e es) ≤ m → Assigns ns a (notesTs (econs e es) i) i m → Assigns ns a (notesT e i) i (i + lenE e)
-  targets-first e es p g =
-      first (notesT e i) (notesTs es (i + lenE e)) g (i + lenE e) (omega arith) (range-ts es (i + lenE e) (i + lenE e) m (omega arith) (omega arith))
+  module _ (e : Expr) (es : Exprs) where
+    pub targets-first : {a : List Part} → Assigns ns a (notesTs (econs e es) i) i (i + lenEs (econs e es)) → Assigns ns a (notesT e i) i (i + lenE e)
+    targets-first g =
+        first (notesT e i) (notesTs es (i + lenE e)) g (i + lenE e) (omega arith) (range-ts es (i + lenE e) (i + lenE e) (i + lenE e + lenEs es) (omega arith) (omega arith))
 
-  pub targets-rest : (e : Expr) (es : Exprs) (st : State) → i + lenEs (econs e es) ≤ m → Assigns ns (st .assigned) (notesTs (econs e es) i) i m
-      → Assigns ns (afterT e st .assigned) (notesTs es (i + lenE e)) (i + lenE e) m
-  targets-rest e es st p g =
-      rest (notesT e i) (notesTs es (i + lenE e)) g (i + lenE e) (afterT e st .assigned) (omega arith) (range-t e i i (i + lenE e) (omega arith) (omega arith))
-      (λ x. after-t x e i (i + lenE e) st (omega arith))
+    pub targets-rest : (st : State) → Assigns ns (st .assigned) (notesTs (econs e es) i) i (i + lenEs (econs e es))
+        → Assigns ns (afterT e st .assigned) (notesTs es (i + lenE e)) (i + lenE e) (i + lenE e + lenEs es)
+    targets-rest st g =
+        cut (rest (notesT e i) (notesTs es (i + lenE e)) g (i + lenE e) (afterT e st .assigned) (omega arith) (range-t e i i (i + lenE e) (omega arith) (omega arith))
+        (λ x. after-t x e i (i + lenE e) st (omega arith))) (i + lenE e) (i + lenE e + lenEs es) (omega arith) (omega arith)
 
-  pub tuple-parts : (l : Line) (es : Exprs) {a : List Part} → Assigns ns a (notesT (tuple l es) i) i m → Assigns ns a (notesTs es (suc i)) (suc i) m
-  tuple-parts l es g = cut g (suc i) m (omega arith) (omega arith)
+  pub tuple-parts : (l : Line) (es : Exprs) {a : List Part} → Assigns ns a (notesT (tuple l es) i) i (i + lenE (tuple l es)) → Assigns ns a (notesTs es (suc i)) (suc i) (suc i + lenEs es)
+  tuple-parts l es g = cut g (suc i) (suc i + lenEs es) (omega arith) (omega arith)
 
   -- the parts of a statement, and the rows before the first of them
-  module _ (l : Line) (e t : Expr) {a : List Part} (p : i + lenS (assign l e t) ≤ m) (g : Assigns ns a (notesS (assign l e t) i) i m) where
+  module _ (l : Line) (e t : Expr) {a : List Part} (g : Assigns ns a (notesS (assign l e t) i) i (i + lenS (assign l e t))) where
     pub assign-still : (x : Bytes) (r : ℕ) → suc i ≤ r → r < suc i + lenE e → mem x a ≡ assignedBy ns x r
-    assign-still x r s u = still g (range-t t (suc i + lenE e) (suc i + lenE e) m (omega arith) (omega arith)) x r (omega arith) (omega arith) (omega arith)
+    assign-still x r s u = still g (range-t t (suc i + lenE e) (suc i + lenE e) (suc i + lenE e + lenE t) (omega arith) (omega arith)) x r (omega arith) (omega arith) (omega arith)
 
-    pub assign-target : Assigns ns a (notesT t (suc i + lenE e)) (suc i + lenE e) m
-    assign-target = cut g (suc i + lenE e) m (omega arith) (omega arith)
+    pub assign-target : Assigns ns a (notesT t (suc i + lenE e)) (suc i + lenE e) (suc i + lenE e + lenE t)
+    assign-target = cut g (suc i + lenE e) (suc i + lenE e + lenE t) (omega arith) (omega arith)
 
-  module _ (l : Line) (c : Expr) (b : Stmts) {a : List Part} (p : i + lenS (block l c b) ≤ m) (g : Assigns ns a (notesS (block l c b) i) i m) where
+  module _ (l : Line) (c : Expr) (b : Stmts) {a : List Part} (g : Assigns ns a (notesS (block l c b) i) i (i + lenS (block l c b))) where
     pub block-still : (x : Bytes) (r : ℕ) → suc i ≤ r → r < suc i + lenE c → mem x a ≡ assignedBy ns x r
-    block-still x r s u = still g (range-ss b (suc i + lenE c) (suc i + lenE c) m (omega arith) (omega arith) (g .early)) x r (omega arith) (omega arith) (omega arith)
+    block-still x r s u =
+        still g (range-ss b (suc i + lenE c) (suc i + lenE c) (suc i + lenE c + lenSs b) (omega arith) (omega arith) (omega arith)) x r (omega arith) (omega arith) (omega arith)
 
-    pub block-body : Assigns ns a (notesSs b (suc i + lenE c)) (suc i + lenE c) m
-    block-body = cut g (suc i + lenE c) m (omega arith) (omega arith)
+    pub block-body : Assigns ns a (notesSs b (suc i + lenE c)) (suc i + lenE c) (suc i + lenE c + lenSs b)
+    block-body = cut g (suc i + lenE c) (suc i + lenE c + lenSs b) (omega arith) (omega arith)
 
-  module _ (l : Line) (c : Expr) (b k e : Stmts) (st : State) (p : i + lenS (choice l c b k e) ≤ m) (g : Assigns ns (st .assigned) (notesS (choice l c b k e) i) i m) where
-    rest-range : (j : ℕ) → j ≤ suc i + lenE c + lenSs b → Range j m (notesSs k (suc i + lenE c + lenSs b) ++ notesSs e (suc i + lenE c + lenSs b + lenSs k))
-    rest-range j q =
-        all-append (range-ss k j (suc i + lenE c + lenSs b) m q (omega arith) (g .early)) (range-ss e j (suc i + lenE c + lenSs b + lenSs k) m (omega arith) (omega arith) (g .early))
+  module _ (l : Line) (c : Expr) (b k e : Stmts) (st : State) (g : Assigns ns (st .assigned) (notesS (choice l c b k e) i) i (i + lenS (choice l c b k e))) where
+    -- the rows at which the three parts begin, and the row after them
+    abbrev i₁ : ℕ
+    i₁ = suc i + lenE c
+
+    abbrev i₂ : ℕ
+    i₂ = suc i + lenE c + lenSs b
+
+    abbrev i₃ : ℕ
+    i₃ = suc i + lenE c + lenSs b + lenSs k
+
+    abbrev i₄ : ℕ
+    i₄ = suc i + lenE c + lenSs b + lenSs k + lenSs e
+
+    rest-range : (j : ℕ) → j ≤ i₂ → Range j i₄ (notesSs k i₂ ++ notesSs e i₃)
+    rest-range j q = all-append (range-ss k j i₂ i₄ q (omega arith) (omega arith)) (range-ss e j i₃ i₄ (omega arith) (omega arith) (omega arith))
 
     pub choice-still : (x : Bytes) (r : ℕ) → suc i ≤ r → r < suc i + lenE c → mem x (st .assigned) ≡ assignedBy ns x r
     choice-still x r s u =
-        still g (all-append (range-ss b (suc i + lenE c) (suc i + lenE c) m (omega arith) (omega arith) (g .early)) (rest-range (suc i + lenE c) (omega arith))) x r (omega arith) (omega arith) (omega arith)
+        still g (all-append (range-ss b i₁ i₁ i₄ (omega arith) (omega arith) (omega arith)) (rest-range i₁ (omega arith))) x r (omega arith) (omega arith) (omega arith)
 
     pub choice-body : Assigns ns (st .assigned) (notesSs b (suc i + lenE c)) (suc i + lenE c) (suc i + lenE c + lenSs b)
-    choice-body =
-        first (notesSs b (suc i + lenE c)) (notesSs k (suc i + lenE c + lenSs b) ++ notesSs e (suc i + lenE c + lenSs b + lenSs k))
-        (cut g (suc i + lenE c) m (omega arith) (omega arith)) (suc i + lenE c + lenSs b) (omega arith) (rest-range (suc i + lenE c + lenSs b) (omega arith))
+    choice-body = first (notesSs b i₁) (notesSs k i₂ ++ notesSs e i₃) (cut g i₁ i₄ (omega arith) (omega arith)) i₂ (omega arith) (rest-range i₂ (omega arith))
 
-    choice-rest : Assigns ns (afterSs b st .assigned) (notesSs k (suc i + lenE c + lenSs b) ++ notesSs e (suc i + lenE c + lenSs b + lenSs k)) (suc i + lenE c + lenSs b) m
+    choice-rest : Assigns ns (afterSs b st .assigned) (notesSs k i₂ ++ notesSs e i₃) i₂ i₄
     choice-rest =
-        rest (notesSs b (suc i + lenE c)) (notesSs k (suc i + lenE c + lenSs b) ++ notesSs e (suc i + lenE c + lenSs b + lenSs k)) g (suc i + lenE c + lenSs b) (afterSs b st .assigned)
-        (omega arith) (range-ss b i (suc i + lenE c) (suc i + lenE c + lenSs b) (omega arith) (omega arith) (omega arith))
-        (λ x. after-ss x b (suc i + lenE c) (suc i + lenE c + lenSs b) st (omega arith) (omega arith))
+        rest (notesSs b i₁) (notesSs k i₂ ++ notesSs e i₃) (cut g i i₄ (omega arith) (omega arith)) i₂ (afterSs b st .assigned) (omega arith)
+        (range-ss b i i₁ i₂ (omega arith) (omega arith) (omega arith)) (λ x. after-ss x b i₁ i₂ st (omega arith) (omega arith))
 
     pub choice-elifs : Assigns ns (afterSs b st .assigned) (notesSs k (suc i + lenE c + lenSs b)) (suc i + lenE c + lenSs b) (suc i + lenE c + lenSs b + lenSs k)
-    choice-elifs =
-        first (notesSs k (suc i + lenE c + lenSs b)) (notesSs e (suc i + lenE c + lenSs b + lenSs k)) choice-rest (suc i + lenE c + lenSs b + lenSs k) (omega arith)
-        (range-ss e (suc i + lenE c + lenSs b + lenSs k) (suc i + lenE c + lenSs b + lenSs k) m (omega arith) (omega arith) (g .early))
+    choice-elifs = first (notesSs k i₂) (notesSs e i₃) choice-rest i₃ (omega arith) (range-ss e i₃ i₃ i₄ (omega arith) (omega arith) (omega arith))
 
-    pub choice-else : Assigns ns (afterSs k (afterSs b st) .assigned) (notesSs e (suc i + lenE c + lenSs b + lenSs k)) (suc i + lenE c + lenSs b + lenSs k) m
+    pub choice-else : Assigns ns (afterSs k (afterSs b st) .assigned) (notesSs e (suc i + lenE c + lenSs b + lenSs k)) (suc i + lenE c + lenSs b + lenSs k) (suc i + lenE c + lenSs b + lenSs k + lenSs e)
     choice-else =
-        rest (notesSs k (suc i + lenE c + lenSs b)) (notesSs e (suc i + lenE c + lenSs b + lenSs k)) choice-rest (suc i + lenE c + lenSs b + lenSs k) (afterSs k (afterSs b st) .assigned)
-        (omega arith) (range-ss k i (suc i + lenE c + lenSs b) (suc i + lenE c + lenSs b + lenSs k) (omega arith) (omega arith) (omega arith))
-        (λ x. after-ss x k (suc i + lenE c + lenSs b) (suc i + lenE c + lenSs b + lenSs k) (afterSs b st) (omega arith) (omega arith))
+        rest (notesSs k i₂) (notesSs e i₃) choice-rest i₃ (afterSs k (afterSs b st) .assigned) (omega arith) (range-ss k i i₂ i₃ (omega arith) (omega arith) (omega arith))
+        (λ x. after-ss x k i₂ i₃ (afterSs b st) (omega arith) (omega arith))
 
   -- the name of a `for` is assigned at the row after its expression
-  module _ (l : Line) (e : Expr) (b : Stmts) {a : List Part} (p : i + lenS (for l e b) ≤ m) (g : Assigns ns a (notesS (for l e b) i) i m) where
+  module _ (l : Line) (e : Expr) (b : Stmts) {a : List Part} (g : Assigns ns a (notesS (for l e b) i) i (i + lenS (for l e b))) where
     pub for-still : (x : Bytes) (r : ℕ) → suc i ≤ r → r < suc i + lenE e → mem x a ≡ assignedBy ns x r
     for-still x r s u =
-        still g (also (counts (suc i + lenE e) (l .name) u (omega arith)) (range-ss b r (suc i + lenE e) m (omega arith) (omega arith) (g .early))) x r (omega arith) (omega arith) (omega arith)
+        still g (also (counts (suc i + lenE e) (l .name) u (omega arith)) (range-ss b r (suc i + lenE e) (suc i + lenE e + lenSs b) (omega arith) (omega arith) (omega arith))) x r (omega arith) (omega arith) (omega arith)
 
-    pub for-body : Assigns ns (l .name ∷ a) (notesSs b (suc i + lenE e)) (suc i + lenE e) m
-    for-body = record { early = g .early; by = λ x r s u. g .by x r (omega arith) u ∙ sym (after-name x (l .name) a (notesSs b (suc i + lenE e)) (suc i + lenE e) r s) }
+    pub for-body : Assigns ns (l .name ∷ a) (notesSs b (suc i + lenE e)) (suc i + lenE e) (suc i + lenE e + lenSs b)
+    for-body = record {
+      early = omega arith;
+      by = λ x r s u. g .by x r (omega arith) (omega arith) ∙ sym (after-name x (l .name) a (notesSs b (suc i + lenE e)) (suc i + lenE e) r s);
+    }
 
 -- where a part has no notes
 pub none-still : {ns : List Note} {a : List Part} {i m : ℕ} → Assigns ns a [] i m → (x : Bytes) (r : ℕ) → i ≤ r → r ≤ m → mem x a ≡ assignedBy ns x r

@@ -85,12 +85,11 @@ pub record Done (text : Bytes) (rows : List Row) (num : Bytes → ℕ) (ns : Lis
   pub slots : slotsFrom w′ r (e - r) ≡ keys (dedupe seen fs)
   pub change : Change num s r w w′
 
--- a part of the text from row r on, whose line is n: the walk has the depth k for it, and it ends at the rows stop and j or before
-pub record Spans (size k r n stop j : ℕ) : Type 0 where
+-- a part of the text from row r on, whose line is n: the walk has the depth k for it, and it ends at the row stop or before
+pub record Spans (size k r n stop : ℕ) : Type 0 where
   pub line : n ≡ suc (suc r)
   pub depth : size ≤ k
   pub inside : r + size ≤ stop
-  pub before : r + size ≤ j
 
 -- a loop comes from row r to row e
 pub record Looped (text : Bytes) (rows : List Row) (num : Bytes → ℕ) (ns : List Note) (s : ScopeStack) (v : Env) (loop : ℕ → List ℕ → List ℕ) (vs : List Part) (seen fs : List Fault) (w : List ℕ)

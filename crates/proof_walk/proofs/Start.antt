@@ -293,7 +293,7 @@ module _ (text : Bytes) (t : Tree) (num : Bytes → ℕ) (w : List ℕ) (table :
         inside = none text (rowsT t) num;
       } in
       looped-end (λ z. rows-end afterRow (walkLine R text (atModule R)) (first + lenSs (t .body)) R z (omega arith))
-      (stmts text (rowsT t) num (t .body) R first (firstLine t) (first + lenSs (t .body)) R b (omega arith) (omega arith)
+      (stmts text (rowsT t) num (t .body) R first (firstLine t) R b (omega arith) (omega arith)
       body worded (record { at = top .after; past = none text (rowsT t) num; viewed = none text (rowsT t) num }) (none text (rowsT t) num))
 
   pub started-kept : Kept w started

@@ -55,29 +55,29 @@ module _ (text : Bytes) (rows : List Row) (num : Bytes → ℕ) where
     head : {vs : List Part} {seen : List Fault} {w : List ℕ} {r : ℕ} → R vs seen w r → suc r ≤ s .end → D vs seen [] w w r (suc r)
     head h l = done-skip (h .at) (omega arith) (omega (arith, b .room))
 
-    expr-done : (e : Expr) (r n j : ℕ) (st : State) {seen : List Fault} {w : List ℕ} → Spans (lenE e) k r n (s .end) j → Here rows r (rowsE e) → WordedE e
+    expr-done : (e : Expr) (r n : ℕ) (st : State) {seen : List Fault} {w : List ℕ} → Spans (lenE e) k r n (s .end) → Here rows r (rowsE e) → WordedE e
         → R (st .view) seen w r → Still ns v st r (r + lenE e) → D (st .view) seen (rawE e n value [] v st) w (walkExpr k text false s r w) r (r + lenE e)
-    expr-done e r n j st f here d h still =
+    expr-done e r n st f here d h still =
         done-to refl (ap (λ i. rawE e i value [] v st) (sym (f .line))) (expr-walked k r st (b .flat) (h .at) e here d (f .depth) (f .inside) (b .room) still)
 
     -- the same as a line of a loop
-    expr-looped : (e : Expr) (r n stop j : ℕ) (st : State) {seen : List Fault} {w : List ℕ} → Spans (lenE e) k r n stop j → stop ≤ s .end
+    expr-looped : (e : Expr) (r n stop : ℕ) (st : State) {seen : List Fault} {w : List ℕ} → Spans (lenE e) k r n stop → stop ≤ s .end
         → Here rows r (rowsE e) → WordedE e → R (st .view) seen w r → Still ns v st r (r + lenE e) → L stop (st .view) seen (rawE e n value [] v st) w r (r + lenE e)
-    expr-looped e r n stop j st {w = w} f m here d h still =
+    expr-looped e r n stop st {w = w} f m here d h still =
         looped-one (line-expr text k s stop r w (omega arith) (r + lenE e) (after-E (h .at .table) e here) (word-E (h .at .table) e here d))
-        (expr-done e r n j st (omega arith) here d h still)
+        (expr-done e r n st (omega arith) here d h still)
 
-    exprs-looped : (es : Exprs) (r n stop j : ℕ) {st : State} {seen : List Fault} {w : List ℕ} → Spans (lenEs es) k r n stop j → stop ≤ s .end
-        → Here rows r (rowsEs es) → WordedEs es → R (st .view) seen w r → (v .home ≡ inDef → Assigns ns (st .assigned) [] r j)
+    exprs-looped : (es : Exprs) (r n stop : ℕ) {st : State} {seen : List Fault} {w : List ℕ} → Spans (lenEs es) k r n stop → stop ≤ s .end
+        → Here rows r (rowsEs es) → WordedEs es → R (st .view) seen w r → (v .home ≡ inDef → Assigns ns (st .assigned) [] r (r + lenEs es))
         → L stop (st .view) seen (rawEs es n [] v st) w r (r + lenEs es)
-    exprs-looped enil r n stop j {w = w} f m here d h by =
+    exprs-looped enil r n stop {w = w} f m here d h by =
         let e : r ≡ r + 0 = omega arith in
         looped-one (ap (λ i. kids text k s stop i w) e) (done-skip (h .at) (omega arith) (omega (arith, b .room)))
-    exprs-looped (econs e es) r n stop j {st} {seen} {w} f m here d h by =
-        let first = expr-looped e r n stop j st (omega arith) m (here-left (rowsE e) (rowsEs es) here) (d .0) h (λ i x z u y. none-still (by i) x z u (omega arith)) in
+    exprs-looped (econs e es) r n stop {st} {seen} {w} f m here d h by =
+        let first = expr-looped e r n stop st (omega arith) m (here-left (rowsE e) (rowsEs es) here) (d .0) h (λ i x z u y. none-still (by i) x z u (omega arith)) in
         looped-to (omega arith) refl (looped-then (first .goes) (first .done)
-        (exprs-looped es (r + lenE e) (n + lenE e) stop j (omega arith) m (here-past (sized-e e) (rowsEs es) here) (d .1) (ready-on b h (first .done))
-        (λ i. cut (by i) (r + lenE e) j (omega arith) (omega arith))))
+        (exprs-looped es (r + lenE e) (n + lenE e) stop (omega arith) m (here-past (sized-e e) (rowsEs es) here) (d .1) (ready-on b h (first .done))
+        (λ i. cut (by i) (r + lenE e) (r + lenE e + lenEs es) (omega arith) (omega arith))))
 
     -- the lines below the row r of a plain statement are one loop
     plain-done : (l : Line) (below : ℕ) (part : List Row) (r : ℕ) {us vs : List Part} {seen fs : List Fault} {w : List ℕ} → plain (l .word) ≡ true → Here rows r (row l below ∷ part)
@@ -89,15 +89,15 @@ module _ (text : Bytes) (rows : List Row) (num : Bytes → ℕ) where
         (done-then d (looped-end (λ z. rows-end afterRow (walkLine k text s) (r + suc below) (r + suc below) z (omega arith)) (looped-to q refl g)))
 
     -- a plain statement whose first line is an expression
-    test-done : (l : Line) (e : Expr) (below : ℕ) (part : List Row) (r n j : ℕ) (st : State) {vs : List Part} {seen gs : List Fault} {w : List ℕ} → plain (l .word) ≡ true
-        → Spans (suc below) (suc k) r n (s .end) j → lenE e ≤ below → Here rows r (row l below ∷ (rowsE e ++ part)) → WordedE e → R (st .view) seen w r → Still ns v st (suc r) (suc r + lenE e)
+    test-done : (l : Line) (e : Expr) (below : ℕ) (part : List Row) (r n : ℕ) (st : State) {vs : List Part} {seen gs : List Fault} {w : List ℕ} → plain (l .word) ≡ true
+        → Spans (suc below) (suc k) r n (s .end) → lenE e ≤ below → Here rows r (row l below ∷ (rowsE e ++ part)) → WordedE e → R (st .view) seen w r → Still ns v st (suc r) (suc r + lenE e)
         → ((z : List ℕ) → R (st .view) (seenAfter seen (rawE e (suc n) value [] v st)) z (suc r + lenE e)
         → L (r + suc below) vs (seenAfter seen (rawE e (suc n) value [] v st)) gs z (suc r + lenE e) (r + suc below))
         → D vs seen (rawE e (suc n) value [] v st ++ gs) w (walkStmt (suc k) text s r w) r (r + suc below)
-    test-done l e below part r n j st {vs} {seen} {gs} {w} p f o here d h still rest =
+    test-done l e below part r n st {vs} {seen} {gs} {w} p f o here d h still rest =
         let top : D (st .view) seen [] w w r (suc r) = head h (omega arith) in
         let h₁ : R (st .view) seen w (suc r) = ready-on b h top in
-        let test = expr-looped e (suc r) (suc n) (r + suc below) j st (omega arith) (f .inside) (here-left (rowsE e) part (here-tail here)) d h₁ still in
+        let test = expr-looped e (suc r) (suc n) (r + suc below) st (omega arith) (f .inside) (here-left (rowsE e) part (here-tail here)) d h₁ still in
         plain-done l below (rowsE e ++ part) r p here h top refl (looped-then (test .goes) (test .done) (rest (test .there) (ready-on b h₁ (test .done))))
 
     -- ---- a def: its name is bound, and its body is a block of its own
@@ -272,59 +272,58 @@ module _ (text : Bytes) (rows : List Row) (num : Bytes → ℕ) where
 
   -- ---- statements
   mutual
-    -- j is a row after the statement
-    stmt : (t : Stmt) (k r n j : ℕ) {ns : List Note} {s : ScopeStack} {v : Env} (b : Block rows ns s v) {st : State} {seen : List Fault} {w : List ℕ}
-        → Spans (lenS t) (suc k) r n (s .end) j → Here rows r (rowsS t) → WordedS t → Ready text num b (st .view) seen w r
-        → (v .home ≡ inDef → Assigns ns (st .assigned) (notesS t r) r j)
+    stmt : (t : Stmt) (k r n : ℕ) {ns : List Note} {s : ScopeStack} {v : Env} (b : Block rows ns s v) {st : State} {seen : List Fault} {w : List ℕ}
+        → Spans (lenS t) (suc k) r n (s .end) → Here rows r (rowsS t) → WordedS t → Ready text num b (st .view) seen w r
+        → (v .home ≡ inDef → Assigns ns (st .assigned) (notesS t r) r (r + lenS t))
         → Done text rows num ns s v (afterS t st .view) seen (rawS t n [] v st) w (walkStmt (suc k) text s r w) r (r + lenS t)
-    stmt (simple l es) k r n j b {st} f here d h by =
+    stmt (simple l es) k r n b {st} f here d h by =
         let top = head b k h (omega arith) in
         plain-done b k l (lenEs es) (rowsEs es) r (simple-test plain refl (d .0)) here h top (omega arith)
-        (exprs-looped b k es (suc r) (suc n) (r + suc (lenEs es)) j (omega arith) (f .inside) (here-tail here) (d .1) (ready-on b h top)
-        (λ i. cut (by i) (suc r) j (omega arith) (omega arith)))
-    stmt (assign l e t) k r n j {ns} {s} {v} b {st} {seen} {w} f here d h by =
+        (exprs-looped b k es (suc r) (suc n) (r + suc (lenEs es)) (omega arith) (f .inside) (here-tail here) (d .1) (ready-on b h top)
+        (λ i. cut (by i) (suc r) (suc r + lenEs es) (omega arith) (omega arith)))
+    stmt (assign l e t) k r n {ns} {s} {v} b {st} {seen} {w} f here d h by =
         let stop : ℕ = r + suc (lenE e + lenE t) in
         let at : Table text rows num w = h .at .table in
         let top = head b k h (omega arith) in
         let h₁ = ready-on b h top in
         let left : Here rows (suc r) (rowsE e) = here-left (rowsE e) (rowsE t) (here-tail here) in
-        let val = expr-done b k e (suc r) (suc n) j st (omega arith) left (d .1 .0) h₁ (λ i. assign-still l e t (f .before) (by i)) in
+        let val = expr-done b k e (suc r) (suc n) st (omega arith) left (d .1 .0) h₁ (λ i. assign-still l e t (by i)) in
         let h₂ = ready-on b h₁ val in
         subst (λ u. Done text rows num ns s v (afterT t st .view) seen (rawE e (suc n) value [] v st ++ rawT t (suc n + lenE e) [] v st) w u r stop)
         (sym (at-assign text k s r w (row-few at here) stop (row-after at here) (row-kind at here ∙ d .0) (suc r + lenE e) (after-E at e left)))
         (done-then top (done-then val (looped-end
         (λ u. rows-end nextTarget (targetAt (walkExpr k text false s) s) stop stop u (omega arith))
         (looped-to (omega arith) refl
-        (target (b .flat) (b .room) k stop (f .inside) t (suc r + lenE e) (suc n + lenE e) j (omega arith)
-        (here-past (sized-e e) (rowsE t) (here-tail here)) (d .1 .1) (h₂ .at) (λ i. assign-target l e t (f .before) (by i)))))))
-    stmt (block l e bd) k r n j b {st} f here d h by =
-        test-done b k l e (lenE e + lenSs bd) (rowsSs bd) r n j st (block-test plain refl (d .0)) f (omega arith) here (d .1 .0) h
-        (λ i. block-still l e bd (f .before) (by i))
+        (target (b .flat) (b .room) k stop (f .inside) t (suc r + lenE e) (suc n + lenE e) (omega arith)
+        (here-past (sized-e e) (rowsE t) (here-tail here)) (d .1 .1) (h₂ .at) (λ i. assign-target l e t (by i)))))))
+    stmt (block l e bd) k r n b {st} f here d h by =
+        test-done b k l e (lenE e + lenSs bd) (rowsSs bd) r n st (block-test plain refl (d .0)) f (omega arith) here (d .1 .0) h
+        (λ i. block-still l e bd (by i))
         (λ u h. looped-to (omega arith) refl
-        (stmts bd k (suc r + lenE e) (suc n + lenE e) j (r + suc (lenE e + lenSs bd)) b (omega arith) (f .inside)
-        (here-past (sized-e e) (rowsSs bd) (here-tail here)) (d .1 .1) h (λ i. block-body l e bd (f .before) (by i))))
-    stmt (choice l e bd ks es) k r n j {ns} {s} {v} b {st} f here d h by =
+        (stmts bd k (suc r + lenE e) (suc n + lenE e) (r + suc (lenE e + lenSs bd)) b (omega arith) (f .inside)
+        (here-past (sized-e e) (rowsSs bd) (here-tail here)) (d .1 .1) h (λ i. block-body l e bd (by i))))
+    stmt (choice l e bd ks es) k r n {ns} {s} {v} b {st} f here d h by =
         let below : ℕ = lenE e + (lenSs bd + (lenSs ks + lenSs es)) in
         let rest : Here rows (suc r + lenE e) (rowsSs bd ++ (rowsSs ks ++ rowsSs es)) = here-past (sized-e e) (rowsSs bd ++ (rowsSs ks ++ rowsSs es)) (here-tail here) in
         let last : Here rows (suc r + lenE e + lenSs bd) (rowsSs ks ++ rowsSs es) = here-past (sized-ss bd) (rowsSs ks ++ rowsSs es) rest in
-        test-done b k l e below (rowsSs bd ++ (rowsSs ks ++ rowsSs es)) r n j st (ap plain (d .0)) f (omega arith) here (d .1 .0) h
-        (λ i. choice-still l e bd ks es st (f .before) (by i))
+        test-done b k l e below (rowsSs bd ++ (rowsSs ks ++ rowsSs es)) r n st (ap plain (d .0)) f (omega arith) here (d .1 .0) h
+        (λ i. choice-still l e bd ks es st (by i))
         (λ u h.
-        let one = stmts bd k (suc r + lenE e) (suc n + lenE e) (suc r + lenE e + lenSs bd) (r + suc below) b (omega arith) (f .inside)
-        (here-left (rowsSs bd) (rowsSs ks ++ rowsSs es) rest) (d .1 .1 .0) h (λ i. choice-body l e bd ks es st (f .before) (by i)) in
+        let one = stmts bd k (suc r + lenE e) (suc n + lenE e) (r + suc below) b (omega arith) (f .inside)
+        (here-left (rowsSs bd) (rowsSs ks ++ rowsSs es) rest) (d .1 .1 .0) h (λ i. choice-body l e bd ks es st (by i)) in
         let h₁ = ready-on b h (one .done) in
-        let two = stmts ks k (suc r + lenE e + lenSs bd) (suc n + lenE e + lenSs bd) (suc r + lenE e + lenSs bd + lenSs ks) (r + suc below) b (omega arith) (f .inside)
-        (here-left (rowsSs ks) (rowsSs es) last) (d .1 .1 .1 .0) h₁ (λ i. choice-elifs l e bd ks es st (f .before) (by i)) in
+        let two = stmts ks k (suc r + lenE e + lenSs bd) (suc n + lenE e + lenSs bd) (r + suc below) b (omega arith) (f .inside)
+        (here-left (rowsSs ks) (rowsSs es) last) (d .1 .1 .1 .0) h₁ (λ i. choice-elifs l e bd ks es st (by i)) in
         looped-to (omega arith) refl (looped-then (one .goes) (one .done) (looped-then (two .goes) (two .done)
-        (stmts es k (suc r + lenE e + lenSs bd + lenSs ks) (suc n + lenE e + lenSs bd + lenSs ks) j (r + suc below) b (omega arith) (f .inside)
-        (here-past (sized-ss ks) (rowsSs es) last) (d .1 .1 .1 .1) (ready-on b h₁ (two .done)) (λ i. choice-else l e bd ks es st (f .before) (by i))))))
-    stmt (for l e bd) k r n j {ns} {s} {v} b {st} {seen} {w} f here d h by =
+        (stmts es k (suc r + lenE e + lenSs bd + lenSs ks) (suc n + lenE e + lenSs bd + lenSs ks) (r + suc below) b (omega arith) (f .inside)
+        (here-past (sized-ss ks) (rowsSs es) last) (d .1 .1 .1 .1) (ready-on b h₁ (two .done)) (λ i. choice-else l e bd ks es st (by i))))))
+    stmt (for l e bd) k r n {ns} {s} {v} b {st} {seen} {w} f here d h by =
         let stop : ℕ = r + suc (lenE e + lenSs bd) in
         let at : Table text rows num w = h .at .table in
         let top = head b k h (omega arith) in
         let h₁ = ready-on b h top in
         let left : Here rows (suc r) (rowsE e) = here-left (rowsE e) (rowsSs bd) (here-tail here) in
-        let val = expr-done b k e (suc r) (suc n) j st (omega arith) left (d .1 .1 .0) h₁ (λ i. for-still l e bd (f .before) (by i)) in
+        let val = expr-done b k e (suc r) (suc n) st (omega arith) left (d .1 .1 .0) h₁ (λ i. for-still l e bd (by i)) in
         let h₂ = ready-on b h₁ val in
         let name = done-bind (h₂ .at) {e = suc r + lenE e} (l .name) (b .flat .inner) (omega (arith, b .room, at .few)) (row-small at here (d .1 .0)) (omega arith) (omega (arith, b .room)) in
         subst (λ u. Done text rows num ns s v (afterSs bd (assigning (l .name) st) .view) seen (rawE e (suc n) value [] v st ++ rawSs bd (suc n + lenE e) [] v (assigning (l .name) st)) w u r stop)
@@ -332,43 +331,43 @@ module _ (text : Bytes) (rows : List Row) (num : Bytes → ℕ) where
         (done-then top (done-then val (done-then name (looped-end
         (λ u. rows-end afterRow (walkLine k text s) stop stop u (omega arith))
         (looped-to (omega arith) refl
-        (stmts bd k (suc r + lenE e) (suc n + lenE e) j stop b (omega arith) (f .inside)
-        (here-past (sized-e e) (rowsSs bd) (here-tail here)) (d .1 .1 .1) (ready-on b h₂ name) (λ i. for-body l e bd (f .before) (by i))))))))
-    stmt (def l bd) k r n j {s = s} b {st} f here d h by =
+        (stmts bd k (suc r + lenE e) (suc n + lenE e) stop b (omega arith) (f .inside)
+        (here-past (sized-e e) (rowsSs bd) (here-tail here)) (d .1 .1 .1) (ready-on b h₂ name) (λ i. for-body l e bd (by i))))))))
+    stmt (def l bd) k r n {s = s} b {st} f here d h by =
         def-done b k l bd r here d (f .inside) h
         (λ u h. looped-to (omega arith) refl
-        (stmts bd k (suc r) (suc n) (r + lenS (def l bd)) (r + lenS (def l bd)) (def-block b k l bd r here d (f .inside)) (omega arith) (omega arith)
-        (here-tail here) (d .1 .1 .1) h (λ _. def-body l bd r (r + lenS (def l bd)) (omega (arith, b .room, h .at .table .few)))))
-    stmt (class l ms ats) k r n j b {st} f here d h by =
+        (stmts bd k (suc r) (suc n) (r + lenS (def l bd)) (def-block b k l bd r here d (f .inside)) (omega arith) (omega arith)
+        (here-tail here) (d .1 .1 .1) h (λ _. def-body l bd r (suc r + lenSs bd) (omega (arith, b .room, h .at .table .few)))))
+    stmt (class l ms ats) k r n b {st} f here d h by =
         class-done b k l ms ats r here d (f .inside) h
-        (λ u i h. methods ms k (suc r) (suc n) j (r + lenS (class l ms ats)) l b (naming (l .name) st) (omega arith) (f .inside) i (here-left (rowsMs ms) (rowsAs ats) (here-tail here)) (d .1 .1 .0) h)
+        (λ u i h. methods ms k (suc r) (suc n) (r + lenS (class l ms ats)) l b (naming (l .name) st) (omega arith) (f .inside) i (here-left (rowsMs ms) (rowsAs ats) (here-tail here)) (d .1 .1 .0) h)
 
-    pub stmts : (ts : Stmts) (k r n j stop : ℕ) {ns : List Note} {s : ScopeStack} {v : Env} (b : Block rows ns s v) {st : State} {seen : List Fault} {w : List ℕ}
-        → Spans (lenSs ts) k r n stop j → stop ≤ s .end → Here rows r (rowsSs ts) → WordedSs ts → Ready text num b (st .view) seen w r
-        → (v .home ≡ inDef → Assigns ns (st .assigned) (notesSs ts r) r j)
+    pub stmts : (ts : Stmts) (k r n stop : ℕ) {ns : List Note} {s : ScopeStack} {v : Env} (b : Block rows ns s v) {st : State} {seen : List Fault} {w : List ℕ}
+        → Spans (lenSs ts) k r n stop → stop ≤ s .end → Here rows r (rowsSs ts) → WordedSs ts → Ready text num b (st .view) seen w r
+        → (v .home ≡ inDef → Assigns ns (st .assigned) (notesSs ts r) r (r + lenSs ts))
         → Looped text rows num ns s v (kids text k s stop) (afterSs ts st .view) seen (rawSs ts n [] v st) w r (r + lenSs ts)
-    stmts snil k r n j stop {s = s} b {st} {w = w} f m here d h by =
+    stmts snil k r n stop {s = s} b {st} {w = w} f m here d h by =
         let e : r ≡ r + 0 = omega arith in
         looped-one (ap (λ i. kids text k s stop i w) e) (done-skip (h .at) (omega arith) (omega (arith, b .room)))
-    stmts (scons t ts) k r n j stop {ns} {s} {v} b {st} {seen} {w} f m here d h by =
+    stmts (scons t ts) k r n stop {ns} {s} {v} b {st} {seen} {w} f m here d h by =
         let some : 0 < lenS t = some-stmt t in
         let less : suc (k - 1) ≡ k = omega arith in
         let first : Done text rows num ns s v (afterS t st .view) seen (rawS t n [] v st) w (walkStmt k text s r w) r (r + lenS t) =
         subst (λ i. Done text rows num ns s v (afterS t st .view) seen (rawS t n [] v st) w (walkStmt i text s r w) r (r + lenS t)) less
-        (stmt t (k - 1) r n (r + lenS t) b (omega arith) (here-left (rowsS t) (rowsSs ts) here) (d .0) h (λ i. stmts-first t ts (f .before) (by i))) in
+        (stmt t (k - 1) r n b (omega arith) (here-left (rowsS t) (rowsSs ts) here) (d .0) h (λ i. stmts-first t ts (by i))) in
         looped-to (omega arith) refl (looped-then
         (line-stmt text k s stop r w (omega arith) (r + lenS t) (after-S (h .at .table) t (here-left (rowsS t) (rowsSs ts) here)) (stmt-kind (h .at .table) t (here-left (rowsS t) (rowsSs ts) here) (d .0)))
         first
-        (stmts ts k (r + lenS t) (n + lenS t) j stop b (omega arith) m (here-past (sized-s t) (rowsSs ts) here) (d .1)
-        (ready-on b h first) (λ i. stmts-rest t ts st (f .before) (by i))))
+        (stmts ts k (r + lenS t) (n + lenS t) stop b (omega arith) m (here-past (sized-s t) (rowsSs ts) here) (d .1)
+        (ready-on b h first) (λ i. stmts-rest t ts st (by i))))
 
-    methods : (ms : Methods) (k r n j stop : ℕ) (c : Line) {ns : List Note} {s : ScopeStack} {v : Env} (b : Block rows ns s v) (st : State) {seen : List Fault} {w : List ℕ}
-        → Spans (lenMs ms) k r n stop j → stop ≤ s .end → v .home ≡ inModule → Here rows r (rowsMs ms) → WordedMs ms → Ready text num b (st .view) seen w r
+    methods : (ms : Methods) (k r n stop : ℕ) (c : Line) {ns : List Note} {s : ScopeStack} {v : Env} (b : Block rows ns s v) (st : State) {seen : List Fault} {w : List ℕ}
+        → Spans (lenMs ms) k r n stop → stop ≤ s .end → v .home ≡ inModule → Here rows r (rowsMs ms) → WordedMs ms → Ready text num b (st .view) seen w r
         → Looped text rows num ns s v (kids text k s stop) (st .view) seen (rawMs ms n c st) w r (r + lenMs ms)
-    methods mnil k r n j stop c {s = s} b st {w = w} f m i here d h =
+    methods mnil k r n stop c {s = s} b st {w = w} f m i here d h =
         let e : r ≡ r + 0 = omega arith in
         looped-one (ap (λ i. kids text k s stop i w) e) (done-skip (h .at) (omega arith) (omega (arith, b .room)))
-    methods (mcons g bd ms) k r n j stop c {ns} {s} {v} b st {seen} {w} f m i here d h =
+    methods (mcons g bd ms) k r n stop c {ns} {s} {v} b st {seen} {w} f m i here d h =
         let less : suc (k - 1) ≡ k = omega arith in
         let u : r + suc (lenSs bd) ≤ s .end = omega arith in
         let e : r + suc (lenSs bd) + lenMs ms ≡ r + suc (lenSs bd + lenMs ms) = omega arith in
@@ -378,11 +377,11 @@ module _ (text : Bytes) (rows : List Row) (num : Bytes → ℕ) where
         subst (λ i. Done text rows num ns s v (st .view) seen (selfFault n g c ++ body) w (walkStmt i text s r w) r (r + suc (lenSs bd))) less
         (method-done b (k - 1) g c bd (rowsSs bd ++ rowsMs ms) r n u (f .line) here (d .0) (d .1 .1 .0) i h
         (λ z h. looped-to a refl
-        (stmts bd (k - 1) (suc r) (suc n) (suc r + lenSs bd) (r + suc (lenSs bd)) (method-block b (k - 1) g bd r u) (omega arith) (omega arith)
+        (stmts bd (k - 1) (suc r) (suc n) (r + suc (lenSs bd)) (method-block b (k - 1) g bd r u) (omega arith) (omega arith)
         (here-left (rowsSs bd) (rowsMs ms) (here-tail here)) (d .1 .1 .1 .0) h (λ y. absurd (omega (arith, ap homeNumber y)))))) in
         looped-to e (append-assoc (selfFault n g c) body (rawMs ms (suc n + lenSs bd) c st))
         (looped-then
         (line-stmt text k s stop r w (omega arith) (r + suc (lenSs bd)) (row-after (h .at .table) here) (omega (arith, row-kind (h .at .table) here, d .0)))
         first
-        (methods ms k (r + suc (lenSs bd)) (suc n + lenSs bd) j stop c b st (omega arith) m i
+        (methods ms k (r + suc (lenSs bd)) (suc n + lenSs bd) stop c b st (omega arith) m i
         (subst (λ j. Here rows j (rowsMs ms)) a (here-past (sized-ss bd) (rowsMs ms) (here-tail here))) (d .1 .1 .1 .1) (ready-on b h first)))

@@ -98,18 +98,17 @@ module _ {text : Bytes} {rows : List Row} {num : Bytes → ℕ} {ns : List Note}
       (done-fault h (refusedAt n l) refl q (omega arith) (omega arith) (omega arith) (omega arith))
 
   mutual
-    -- j is a row after the target
-    pub target : (t : Expr) (r n j : ℕ) {st : State} {seen : List Fault} {w : List ℕ} → Spans (lenE t) k r n stop j
-        → Here rows r (rowsE t) → WordedE t → At text rows num ns s [] v (st .view) seen w r → (v .home ≡ inDef → Assigns ns (st .assigned) (notesT t r) r j)
+    pub target : (t : Expr) (r n : ℕ) {st : State} {seen : List Fault} {w : List ℕ} → Spans (lenE t) k r n stop
+        → Here rows r (rowsE t) → WordedE t → At text rows num ns s [] v (st .view) seen w r → (v .home ≡ inDef → Assigns ns (st .assigned) (notesT t r) r (r + lenE t))
         → Looped text rows num ns s v (turns text k s stop) (afterT t st .view) seen (rawT t n [] v st) w r (r + lenE t)
-    target (var l) r n j {st} {seen} {w} f here d h by =
+    target (var l) r n {st} {seen} {w} f here d h by =
         let few = h .table .few in
         looped-one
         (turn text k s stop (omega arith) (turn-var (walkExpr k text false s) s r w (row-kind (h .table) here ∙ d .0)) (ap (defined s w) (row-number (h .table) here (d .1))) (row-after (h .table) here))
         (done-bind h (l .name) (flat .inner) (omega arith) (row-small (h .table) here (d .1)) (omega arith) (omega arith))
-    target (node l es) r n j f here d h by =
+    target (node l es) r n f here d h by =
         refused l (lenEs es) (rowsEs es) r n (f .line) (f .inside) here (node-test noTarget refl (d .0)) h
-    target (access l es) r n j {st} {seen} {w} f here d h by =
+    target (access l es) r n {st} {seen} {w} f here d h by =
         let e : suc r + lenEs es ≡ r + suc (lenEs es) = omega arith in
         let head : Done text rows num ns s v (st .view) seen [] w w r (suc r) =
         done-skip h (omega arith) (omega arith) in
@@ -119,26 +118,26 @@ module _ {text : Bytes} {rows : List Row} {num : Bytes → ℕ} {ns : List Note}
         (done-to e (ap (λ i. rawEs es (suc i) [] v st) (sym (f .line))) (done-then head
         (exprs-walked k (suc r) st flat (head .after) es (here-tail here) (d .1) (omega arith) (omega arith) room
         (λ i x z u y. none-still (by i) x z (omega arith) (omega arith)))))
-    target (tuple l es) r n j {st} {seen} {w} f here d h by =
+    target (tuple l es) r n {st} {seen} {w} f here d h by =
         let head : Done text rows num ns s v (st .view) seen [] w w r (suc r) =
         done-skip h (omega arith) (omega arith) in
         looped-to (omega arith) refl (looped-then
         (turn text k s stop (omega arith) (turn-tuple (walkExpr k text false s) s r w (row-kind (h .table) here ∙ d .0)) refl (add-one r)) head
-        (targets es (suc r) (suc n) j (omega arith) (here-tail here) (d .1) (head .after) (λ i. tuple-parts l es (by i))))
-    target (call l g es) r n j f here d h by =
+        (targets es (suc r) (suc n) (omega arith) (here-tail here) (d .1) (head .after) (λ i. tuple-parts l es (by i))))
+    target (call l g es) r n f here d h by =
         refused l (lenE g + lenEs es) (rowsE g ++ rowsEs es) r n (f .line) (f .inside) here (ap noTarget (d .0)) h
-    target (lambda l e) r n j f here d h by =
+    target (lambda l e) r n f here d h by =
         refused l (lenE e) (rowsE e) r n (f .line) (f .inside) here (ap noTarget (d .0)) h
 
-    targets : (es : Exprs) (r n j : ℕ) {st : State} {seen : List Fault} {w : List ℕ} → Spans (lenEs es) k r n stop j
-        → Here rows r (rowsEs es) → WordedEs es → At text rows num ns s [] v (st .view) seen w r → (v .home ≡ inDef → Assigns ns (st .assigned) (notesTs es r) r j)
+    targets : (es : Exprs) (r n : ℕ) {st : State} {seen : List Fault} {w : List ℕ} → Spans (lenEs es) k r n stop
+        → Here rows r (rowsEs es) → WordedEs es → At text rows num ns s [] v (st .view) seen w r → (v .home ≡ inDef → Assigns ns (st .assigned) (notesTs es r) r (r + lenEs es))
         → Looped text rows num ns s v (turns text k s stop) (afterTs es st .view) seen (rawTs es n [] v st) w r (r + lenEs es)
-    targets enil r n j {st} {seen} {w} f here d h by =
+    targets enil r n {st} {seen} {w} f here d h by =
         let e : r ≡ r + 0 = omega arith in
         looped-one (ap (λ i. turns text k s stop i w) e) (done-skip h (omega arith) (omega arith))
-    targets (econs e es) r n j {st} {seen} {w} f here d h by =
+    targets (econs e es) r n {st} {seen} {w} f here d h by =
         let first : Looped text rows num ns s v (turns text k s stop) (afterT e st .view) seen (rawT e n [] v st) w r (r + lenE e) =
-        target e r n (r + lenE e) (omega arith) (here-left (rowsE e) (rowsEs es) here) (d .0) h (λ i. targets-first e es (f .before) (by i)) in
+        target e r n (omega arith) (here-left (rowsE e) (rowsEs es) here) (d .0) h (λ i. targets-first e es (by i)) in
         looped-to (omega arith) refl (looped-then (first .goes) (first .done)
-        (targets es (r + lenE e) (n + lenE e) j (omega arith) (here-past (sized-e e) (rowsEs es) here) (d .1)
-        (first .done .after) (λ i. targets-rest e es st (f .before) (by i))))
+        (targets es (r + lenE e) (n + lenE e) (omega arith) (here-past (sized-e e) (rowsEs es) here) (d .1)
+        (first .done .after) (λ i. targets-rest e es st (by i))))
