@@ -15,12 +15,13 @@ use Rattle.report_messages.specs.MessagesModel.{recordMessage}
 use Rattle.find_faults.specs.declared.Answer.{Answer}
 use Rattle.find_faults.specs.declared.Answer.the-variants as A
 use Rattle.find_faults.specs.Found.{Finds, Kept, Listed}
-use Rattle.serduzhap.specs.Calls.{reportSays, messageSays, partSays, recordsOf}
+use Rattle.serduzhap.specs.Calls.{reportSays, messageSays, partSays}
+use Rattle.write_records.specs.WriteModel.{recordsOf, recordAt}
 use Rattle.serduzhap.specs.declared.ReportResult.{ReportResult}
 use Rattle.serduzhap.specs.declared.ReportResult.the-variants as R
 use Rattle.serduzhap.specs.declared.MessageResult.{MessageResult}
 use Rattle.serduzhap.specs.declared.MessageResult.the-variants as M
-use Rattle.serduzhap.proofs.FaultWritten.{partAt, recordAt, records-shown, name-shown, place-shown, message-shown, at-none, at-some}
+use Rattle.serduzhap.proofs.FaultWritten.{partAt, records-shown, name-shown, place-shown, message-shown, at-none, at-some}
 
 -- ---- the answers of `report` and `message`, with what the output holds after
 abbrev pub Reports : ReportAnswer → List ℕ → ReportResult → List ℕ → Type 0

@@ -10,12 +10,12 @@ use Rattle.spec_text.specs.Bytes.{Bytes, partOf}
 use Rattle.spec_faults.specs.Faults.{Fault, record7, records}
 use Rattle.spec_faults.specs.Faults as F
 use Rattle.spec_answers.specs.Answers.{nthFault}
-use Rattle.report_order.specs.OrderModel.{entryAt}
-use Rattle.report_records.specs.RecordsModel.{recordOf, numbers, numbers32}
+use Rattle.report_records.specs.RecordsModel.{numbers, numbers32}
 use Rattle.report_records.specs.declared.Record.{Record}
 use Rattle.report_messages.specs.MessagesModel.{recordMessage}
 use Rattle.find_faults.specs.Found.{Shown, Shows, Listed}
-use Rattle.serduzhap.specs.Calls.{partSays, recordsOf}
+use Rattle.serduzhap.specs.Calls.{partSays}
+use Rattle.write_records.specs.WriteModel.{recordAt, recordsOf}
 use Rattle.serduzhap.specs.declared.NamePart.{NamePart}
 
 -- ---- fault i: there is none from the number of faults on
@@ -71,23 +71,20 @@ module _ (text : Bytes) (r : Record) (f : Fault) (e : numbers r ≡ record7 f) w
 
 -- ---- an entry that shows a fault
 module _ (text : Bytes) (w : List ℕ) where
-  abbrev pub recordAt : ℕ → Record
-  recordAt j = recordOf text w (entryAt w j)
-
   module _ {j : ℕ} {f : Fault} (s : Shows text w j f) where
-    pub words-shown : numbers32 (recordAt j) ≡ record7 f
+    pub words-shown : numbers32 (recordAt text w j) ≡ record7 f
     words-shown =
         ap (map (λ (n : ℕ). n % 4_294_967_296)) (s .record′)
         ∙ seven-small _ _ _ _ _ _ _ (s .kind) (s .start) (s .end) (s .nameAt) (s .nameLen) (s .classAt) (s .classLen)
 
-    pub name-shown : partOf text (recordAt j .name) (recordAt j .«name_len») ≡ f .name .bytes
-    name-shown = name-of text (recordAt j) f (s .record′) (s .name)
+    pub name-shown : partOf text (recordAt text w j .name) (recordAt text w j .«name_len») ≡ f .name .bytes
+    name-shown = name-of text (recordAt text w j) f (s .record′) (s .name)
 
-    pub place-shown : partAt (recordAt j .name) (recordAt j .«name_len») ≡ partSays (f .name)
-    place-shown = place-of text (recordAt j) f (s .record′)
+    pub place-shown : partAt (recordAt text w j .name) (recordAt text w j .«name_len») ≡ partSays (f .name)
+    place-shown = place-of text (recordAt text w j) f (s .record′)
 
-    pub message-shown : recordMessage text (recordAt j) ≡ F.messageOf f
-    message-shown = message-of text (recordAt j) f (s .record′) (s .name) (s .class)
+    pub message-shown : recordMessage text (recordAt text w j) ≡ F.messageOf f
+    message-shown = message-of text (recordAt text w j) f (s .record′) (s .name) (s .class)
 
   -- ---- the records of all entries
   from : (fs : List Fault) (j : ℕ) → ((i : ℕ) (f : Fault) → nthFault fs i ≡ some f → Shows text w (j + i) f) → recordsOf text w j (length fs) ≡ records fs

@@ -1,13 +1,12 @@
 -- What the public calls promise: for any text, any work buffer, any output buffer and any i. What a code's answer says in FORMAT.md's
 -- numbers is one definition for each call.
-use Prim.Native.Nat.{ℕ, zero, suc, _+_}
+use Prim.Native.Nat.{ℕ}
 use mathlib.Core.Path.{_≡_}
-use mathlib.Core.List.{List, [], _++_}
+use mathlib.Core.List.{List}
 use lib.ListN.{length}
 use Rattle.spec_text.specs.Bytes.{Bytes, Part}
 use Rattle.spec_answers.specs.Answers.{CheckAnswer, accepted, faulty, check, ReportAnswer, written, report, reportOut, MessageAnswer, wrote, noFault, tooLong, message, messageOut}
-use Rattle.report_order.specs.OrderModel.{entryAt}
-use Rattle.report_records.specs.RecordsModel.{recordOf, numbers, numbers32}
+use Rattle.report_records.specs.RecordsModel.{numbers}
 use Rattle.serduzhap.specs.declared.CheckResult.{CheckResult}
 use Rattle.serduzhap.specs.declared.CheckResult.the-variants as C
 use Rattle.serduzhap.specs.declared.ReportResult.{ReportResult}
@@ -49,8 +48,3 @@ Messages text work i old new r = (r ≡ messageSays (message text work i (length
 -- ---- where the name of fault i stands in the text
 abbrev pub partSays : Part → NamePart
 partSays x = record { offset = x .offset; len = length (x .bytes) }
-
--- ---- how the code goes about it: the records of n entries from the j-th on
-abbrev pub recordsOf : Bytes → List ℕ → ℕ → ℕ → List ℕ
-recordsOf text w j zero = []
-recordsOf text w j (suc n) = numbers32 (recordOf text w (entryAt w j)) ++ recordsOf text w (j + 1) n

@@ -4,12 +4,12 @@ use report_records::RECORD;
 use report_records::Record;
 use spec_text::refusal;
 ghost use mathlib.Core.Path.{_≡_};
-ghost use Prim.Native.Nat.{_<_, _≤_, _*_};
+ghost use Prim.Native.Nat.{_<_, _*_};
 ghost use lib.ListN.{length};
-ghost use Rattle.spec_answers.specs.Answers.{messageOut, wroteIf, name, over};
+ghost use Rattle.spec_answers.specs.Answers.{messageOut, wroteIf, name};
 ghost use Rattle.report_messages.specs.MessagesModel.{recordMessage};
 ghost use Rattle.spec_text.specs.Bytes.{partOf};
-ghost use Rattle.serduzhap.specs.Calls.{Checks, Reports, messageSays, Messages, partSays, recordsOf};
+ghost use Rattle.serduzhap.specs.Calls.{Checks, Reports, messageSays, Messages, partSays};
 
 // Accepted; the record of the first fault; or a refusal, by number and line.
 pub enum CheckResult {
@@ -58,18 +58,6 @@ pub fn check(text: &[u8], work: &mut [u32]) -> CheckResult
     }
 }
 
-// Writes the records of so many faults.
-fn write_records(text: &[u8], work: &[u32], out: &mut [u32], count: usize)
-    requires { ⌜ (7 * count ≤ length (now out)) × (count < 4294967296) ⌝ }
-    ensures { λ _. ⌜ now (out .exit) ≡ over (recordsOf (now (text .entry)) (now (work .entry)) 0 count) (now (out .entry)) ⌝ }
-{
-    let mut j = 0;
-    while j < count {
-        report_records::put_record(out, RECORD * j, find_faults::record_at(text, work, j));
-        j += 1;
-    }
-}
-
 // Writes all faults to the output as records, and answers their count.
 pub fn report(text: &[u8], work: &mut [u32], out: &mut [u32]) -> ReportResult
     ensures { λ r. ⌜ Reports (now (text .entry)) (length (now (work .entry))) (now (out .entry)) (now (out .exit)) r ⌝ }
@@ -82,7 +70,7 @@ pub fn report(text: &[u8], work: &mut [u32], out: &mut [u32]) -> ReportResult
                     line: count,
                 };
             }
-            write_records(text, work, out, count);
+            write_records::write_records(text, work, out, count);
             ReportResult::Written { count: count }
         }
         Answer::Refused { number, line } => ReportResult::Refused {

@@ -124,3 +124,11 @@ pub fn first(text: &[u8], n: usize) -> &[u8] {
         &text[0..0]
     }
 }
+
+// Where the next length stands, after the one at an offset and so many bytes.
+pub fn past(at: usize, len: usize) -> usize
+    requires { ⌜ (at < 4294967296) × (len < 4294967296) ⌝ }
+    ensures { λ r. ⌜ at < r ⌝ }
+{
+    at + 4 + len
+}

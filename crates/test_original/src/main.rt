@@ -37,23 +37,14 @@ fn check(text: &[u8], work: &mut [u32], bytes: &mut [u8]) {
     }
 }
 
-fn part(all: &[u8], from: usize, end: usize) -> &[u8] {
-    if from <= end && end <= all.len() {
-        &all[from..end]
-    } else {
-        &all[0..0]
-    }
-}
-
 // Checks the text whose length stands at an offset, and answers where the next one's does.
 fn step(all: &[u8], at: usize, work: &mut [u32], bytes: &mut [u8]) -> usize
     requires { ⌜ at < 4294967296 ⌝ }
     ensures { λ r. ⌜ at < r ⌝ }
 {
-    let from = at + 4;
-    let end = from + test_frames::number(all, at);
-    check(part(all, from, end), work, bytes);
-    end
+    let len = test_frames::number(all, at);
+    check(read_bytes::part(all, at + 4, len), work, bytes);
+    test_frames::past(at, len)
 }
 
 fn run(all: &[u8]) {

@@ -5,10 +5,10 @@ use native.Mathlib.Omega.{arith}
 use lib.ListN.{length}
 use borrow.Author.Needs.{needs}
 use Rattle.spec_answers.specs.Answers.{over}
-use Rattle.serduzhap.specs.Calls.{recordsOf}
-use Rattle.serduzhap.proofs.Over.{turn}
-use Rattle.serduzhap.proofs.write_records.Statement.{statement}
-use Rattle.serduzhap.proofs.write_records.Tie as tie
+use Rattle.write_records.specs.WriteModel.{recordsOf}
+use Rattle.write_records.proofs.OneByOne.{turn}
+use Rattle.write_records.proofs.write_records.Statement.{statement}
+use Rattle.write_records.proofs.write_records.Tie as tie
 
 abbrev Inv-loop : tie.InvT-loop
 Inv-loop text work out₀ count j₀ out j =

@@ -1,0 +1,2 @@
+-- OneByOne: one record more is written after those before it.
+mod OneByOne

@@ -1,0 +1,2 @@
+-- Records, written one after the other.
+pub mod WriteModel
