@@ -2,6 +2,7 @@
 -- text that they show are the fault's names. So what `print` pushes is what is printed.
 use Prim.Native.Nat.{ℕ, suc, _+_, _*_, _<_}
 use native.Mathlib.Omega.{arith}
+use native.Mathlib.Nat.{zero-add, sub-zero}
 use mathlib.Core.Path.{_≡_, refl, sym, ap, _∙_}
 use mathlib.Core.List.{List, [], _∷_, _++_, append-assoc}
 use mathlib.Core.Option.{some}
@@ -10,14 +11,15 @@ use lib.Seq.{getD-append-add, getD-append-seam}
 use Rattle.spec_text.specs.Bytes.{Bytes}
 use Rattle.spec_text.specs.Reading.{shortestWork}
 use Rattle.spec_faults.specs.Faults.{Fault, faults, record7, records}
-use Rattle.spec_answers.specs.Answers.{ReportAnswer, report, nthFault, over, reportOut}
-use Rattle.spec_answers.specs.Printed.{faultLine, faultLines, refusedLine, reportBuffer, printed}
+use Rattle.spec_answers.specs.Answers.{report, nthFault, over}
+use Rattle.spec_answers.specs.Printed.{faultLine, faultLines, refusedLine, reportBuffer, printed, Prints}
 use Rattle.spec_text.specs.Writing.{decimalOf, lineWith}
+use Rattle.write_bytes.specs.PushModel.{bytesPushed, pushedTo, Pushes}
 use Rattle.report_records.specs.declared.Record.{Record}
 use Rattle.print_lines.specs.LinesModel.{recordIn, recordLine, recordLines}
 use Rattle.find_faults.specs.Found.{Shown}
 use Rattle.find_faults.proofs.Theorems.{faults-shown}
-use Rattle.serduzhap.specs.Calls.{reportSays}
+use Rattle.serduzhap.specs.Calls.{Gives, reportSays}
 use Rattle.serduzhap.specs.declared.ReportResult.{ReportResult}
 use Rattle.serduzhap.specs.declared.ReportResult.the-variants as R
 use Rattle.print_answer.proofs.Cases.{by-answer}
@@ -73,17 +75,14 @@ module _ (text : Bytes) where
   lines-reported fs old = lines-from fs [] (drop (length (records fs)) old) 0 refl
 
 -- ---- `report` returned r, and left the numbers ns in the report buffer
-abbrev Reports : List ℕ → ReportResult → List ℕ → ReportAnswer → Type 0
-Reports old r ns a = (r ≡ reportSays a) × (ns ≡ reportOut a old)
-
 module _ (text : Bytes) (work old : List ℕ) (long : length work ≡ shortestWork) (room : length old ≡ reportBuffer) (r : ReportResult) (ns : List ℕ)
-    (e : Reports old r ns (report text (length work) (length old))) where
-  here : Reports old r ns (report text shortestWork reportBuffer)
+    (e : Gives (report text (length work) (length old)) old ns (reportSays r)) where
+  here : Gives (report text shortestWork reportBuffer) old ns (reportSays r)
   here = rw (long, room) at e
 
   pub print-written : (k : ℕ) → r ≡ R.Written k → (recordLines text ns 0 k ++ lineWith "faults" (decimalOf k ∷ []) ≡ printed text) × (k < 16_777_216)
   print-written k h =
-      by-answer text (λ a b. Reports old r ns a → (recordLines text ns 0 k ++ lineWith "faults" (decimalOf k ∷ []) ≡ b) × (k < 16_777_216))
+      by-answer text (λ a b. Gives a old ns (reportSays r) → (recordLines text ns 0 k ++ lineWith "faults" (decimalOf k ∷ []) ≡ b) × (k < 16_777_216))
       (λ i n d. let z : _≡_ {A = ℕ} 0 1 = cc in absurd (omega arith))
       (λ t g few d.
       let i : k ≡ length (faults t) = cc in
@@ -91,9 +90,14 @@ module _ (text : Bytes) (work old : List ℕ) (long : length work ≡ shortestWo
 
   pub print-refused : (k n : ℕ) → r ≡ R.Refused k n → refusedLine k n ≡ printed text
   print-refused k n h =
-      by-answer text (λ a b. Reports old r ns a → refusedLine k n ≡ b)
+      by-answer text (λ a b. Gives a old ns (reportSays r) → refusedLine k n ≡ b)
       (λ i m d.
       let p : k ≡ i = cc in
       let q : n ≡ m = cc in
       rw (p, q))
       (λ t g few d. let z : _≡_ {A = ℕ} 0 1 = cc in absurd (omega arith)) here
+
+-- ---- what is pushed to the start of a buffer
+pub prints : (text : Bytes) (old : List ℕ) {new : List ℕ} {n : ℕ} → Pushes old 0 (printed text) new n → Prints text old new n
+unfolding bytesPushed pushedTo
+prints text old p = (p .1 ∙ rw (sub-zero, zero-add), p .0 ∙ rw (sub-zero, zero-add), p .2)

@@ -3,22 +3,21 @@
 use Prim.Native.Nat.{ℕ, zero, suc, _+_, _*_, _/_, _%_, _≤_}
 use native.Mathlib.Decide.{ℕ-discrete}
 use native.Mathlib.Omega.{arith}
-use mathlib.Core.Path.{_≡_, refl, ap, _∙_}
+use mathlib.Core.Path.{_≡_, refl, ap, ap₂, _∙_}
 use mathlib.Core.Bool.{Bool, true, false}
 use mathlib.Core.List.{List, [], _∷_, _++_}
 use mathlib.Core.Option.{some}
 use lib.Dec.{eqb, leb, ltb}
-use lib.ListN.{length, getD, take, length-append}
+use lib.ListN.{length, getD, take, drop, length-append}
+use lib.Seq.{take-all, take-append-seam}
 use borrow.Author.Tests.{leb-true}
 use Rattle.spec_text.specs.Bytes.{Bytes, Part, noPart, all, bytes}
 use Rattle.spec_text.specs.Reading.{shortestWork}
 use Rattle.spec_faults.specs.Faults.{Fault, faults, Words, eightTexts, written, messageFrom, messageOf}
-use Rattle.spec_answers.specs.Answers.{nthFault}
-use Rattle.spec_answers.specs.Printed.{faultLine, faultLines, refusedLine, printed}
+use Rattle.spec_answers.specs.Answers.{over, nthFault}
+use Rattle.spec_answers.specs.Printed.{faultLine, faultLines, refusedLine, printed, Prints}
 use Rattle.spec_text.specs.Writing.{digits, decimalOf, tabbed, lineWith}
 use Rattle.spec_text.proofs.Lists.{and-split}
-use Rattle.write_bytes.specs.PushModel.{Pushes}
-use Rattle.write_bytes.proofs.Pushed.{pushed-whole}
 use Rattle.report_messages.proofs.Lengths.{length-written}
 use Rattle.find_faults.proofs.Theorems.{faults-short, faults-classless}
 use Rattle.print_answer.proofs.Cases.{by-answer}
@@ -100,6 +99,10 @@ room text =
           fault-short f (faults-classless text shortestWork t e j f at) (s .0) (s .1)),
     )))
 
--- so what is pushed to such a buffer is all of it
-pub print-whole : (text old out : List ℕ) (n : ℕ) → 524_288 ≤ length old → Pushes old 0 (printed text) out n → take n out ≡ printed text
-print-whole text old out n h p = rw (p .0, p .1) (pushed-whole old (printed text) (omega (arith, room text)))
+-- so in such a buffer all of it stands
+pub print-whole : (text old new : List ℕ) (n : ℕ) → 524_288 ≤ length old → Prints text old new n → take n new ≡ printed text
+print-whole text old new n h p =
+    let shown : take (length old) (printed text) ≡ printed text = take-all (length old) (printed text) (omega (arith, room text)) in
+    let q : n ≡ length (printed text) = p .0 ∙ ap length shown in
+    let o : new ≡ over (printed text) old = p .1 ∙ ap (λ bs. over bs old) shown in
+    ap₂ take q o ∙ take-append-seam (printed text) (drop (length (printed text)) old)

@@ -1,7 +1,6 @@
 // What `namecheck` prints, as bytes in a buffer: the only thing left to the program is to read and to write.
 use serduzhap::ReportResult;
-ghost use Rattle.spec_answers.specs.Printed.{printed};
-ghost use Rattle.write_bytes.specs.PushModel.{Pushes};
+ghost use Rattle.spec_answers.specs.Printed.{Prints};
 
 // The numbers of the report buffer and of the work buffer.
 pub const REPORT: usize = 16384;
@@ -15,7 +14,7 @@ pub fn print(
     report: &mut [u32; REPORT],
     out: &mut [u8],
 ) -> usize
-    ensures { λ r. ⌜ Pushes (now (out .entry)) 0 (printed (now (text .entry))) (now (out .exit)) r ⌝ }
+    ensures { λ r. ⌜ Prints (now (text .entry)) (now (out .entry)) (now (out .exit)) r ⌝ }
 {
     match serduzhap::report(text, work, report) {
         ReportResult::Written { count } => {

@@ -9,26 +9,15 @@ use Rattle.spec_text.specs.Bytes.{Bytes, Part, partOf}
 use Rattle.spec_text.specs.Tree.{Tree}
 use Rattle.spec_text.specs.Reading.{Reading, tree, refusal}
 use Rattle.spec_faults.specs.Faults.{Fault, faults, records}
-use Rattle.spec_answers.specs.Answers.{accepted, faulty, firstRecord, checkOf, ReportAnswer, written, reported, reportOf, reportOut, MessageAnswer, noFault, wroteIf, messageOr, messageIn, messageOut, nthFault, nameOf, nameIn, over}
+use Rattle.spec_answers.specs.Answers.{accepted, written, faulty, refused, firstRecord, checkOf, Outcome, over, refusing, reported, reportOf, wroteIf, messageOr, messageIn, nthFault, nameOf, nameIn}
 use Rattle.report_records.specs.RecordsModel.{numbers}
 use Rattle.report_messages.specs.MessagesModel.{recordMessage}
 use Rattle.find_faults.specs.declared.Answer.{Answer}
 use Rattle.find_faults.specs.declared.Answer.the-variants as A
 use Rattle.find_faults.specs.Found.{Finds, Kept, Listed}
-use Rattle.serduzhap.specs.Calls.{reportSays, messageSays, partSays}
+use Rattle.serduzhap.specs.Calls.{Gives, partSays}
 use Rattle.write_records.specs.WriteModel.{recordsOf, recordAt}
-use Rattle.serduzhap.specs.declared.ReportResult.{ReportResult}
-use Rattle.serduzhap.specs.declared.ReportResult.the-variants as R
-use Rattle.serduzhap.specs.declared.MessageResult.{MessageResult}
-use Rattle.serduzhap.specs.declared.MessageResult.the-variants as M
 use Rattle.serduzhap.proofs.FaultWritten.{partAt, records-shown, name-shown, place-shown, message-shown, at-none, at-some}
-
--- ---- the answers of `report` and `message`, with what the output holds after
-abbrev pub Reports : ReportAnswer → List ℕ → ReportResult → List ℕ → Type 0
-Reports a old r out = (r ≡ reportSays a) × (out ≡ reportOut a old)
-
-abbrev pub Messages : MessageAnswer → List ℕ → MessageResult → List ℕ → Type 0
-Messages a old r out = (r ≡ messageSays a) × (out ≡ messageOut a old)
 
 -- ---- an offset and a length that are a name's, and the part of the text that they show
 abbrev pub Names : Bytes → ℕ → ℕ → Part → Type 0
@@ -55,15 +44,16 @@ module _ (text : Bytes) (w : List ℕ) (fs : List Fault) (s : Listed text fs w) 
 
   -- the output is shorter than the records, or they are written over it
   module _ (old : List ℕ) where
-    reported-short : length old < 7 * length fs → Reports (reported (length old) fs) old (R.Refused 16 (length fs)) old
+    reported-short : length old < 7 * length fs → Gives (reported (length old) fs) old old (refused 16 (length fs ∷ []))
     reported-short h =
-        let e : reported (length old) fs ≡ ReportAnswer.refused 16 (length fs) = rw (lt-ltb (length old) (7 * length fs) h, reported) in
-        subst (λ a. Reports a old (R.Refused 16 (length fs)) old) (sym e) (refl, refl)
+        let e : reported (length old) fs ≡ refusing (refused 16 (length fs ∷ [])) = rw (lt-ltb (length old) (7 * length fs) h, reported) in
+        subst (λ o. Gives o old old (refused 16 (length fs ∷ []))) (sym e) (refl, refl)
 
-    reported-whole : 7 * length fs ≤ length old → Reports (reported (length old) fs) old (R.Written (length fs)) (over (recordsOf text w 0 (length fs)) old)
+    reported-whole : 7 * length fs ≤ length old → Gives (reported (length old) fs) old (over (recordsOf text w 0 (length fs)) old) (written (length fs))
     reported-whole h =
-        let e : reported (length old) fs ≡ written (records fs) (length fs) = rw (le-ltb (length old) (7 * length fs) h, reported) in
-        subst (λ a. Reports a old (R.Written (length fs)) (over (recordsOf text w 0 (length fs)) old)) (sym e)
+        let whole : Outcome = record { answer = written (length fs); writes = records fs } in
+        let e : reported (length old) fs ≡ whole = rw (le-ltb (length old) (7 * length fs) h, reported) in
+        subst (λ o. Gives o old (over (recordsOf text w 0 (length fs)) old) (written (length fs))) (sym e)
         (refl, ap (λ ns. over ns old) (records-shown text w fs s))
 
   -- fault i
@@ -96,19 +86,21 @@ module _ {text : Bytes} {x : Reading} {w : List ℕ} {r : Answer} (f : Finds tex
     pub check-faulty : (n ≡ 0 → ⊥) → faulty (numbers (recordAt text w 0)) ≡ checkOf x
     check-faulty = of-tree (λ n y. (n ≡ 0 → ⊥) → faulty (numbers (recordAt text w 0)) ≡ checkOf y) e (λ t k. first-some text w (faults t) (k .0))
 
-    pub report-short : (old : List ℕ) → length old < 7 * n → Reports (reportOf (length old) x) old (R.Refused 16 n) old
+    pub report-short : (old : List ℕ) → length old < 7 * n → Gives (reportOf (length old) x) old old (refused 16 (n ∷ []))
     report-short old =
-        of-tree (λ n y. length old < 7 * n → Reports (reportOf (length old) y) old (R.Refused 16 n) old) e (λ t k. reported-short text w (faults t) (k .0) old)
+        of-tree (λ n y. length old < 7 * n → Gives (reportOf (length old) y) old old (refused 16 (n ∷ []))) e
+        (λ t k. reported-short text w (faults t) (k .0) old)
 
-    pub report-written : (old : List ℕ) → 7 * n ≤ length old → Reports (reportOf (length old) x) old (R.Written n) (over (recordsOf text w 0 n) old)
+    pub report-written : (old : List ℕ) → 7 * n ≤ length old → Gives (reportOf (length old) x) old (over (recordsOf text w 0 n) old) (written n)
     report-written old =
-        of-tree (λ n y. 7 * n ≤ length old → Reports (reportOf (length old) y) old (R.Written n) (over (recordsOf text w 0 n) old)) e
+        of-tree (λ n y. 7 * n ≤ length old → Gives (reportOf (length old) y) old (over (recordsOf text w 0 n) old) (written n)) e
         (λ t k. reported-whole text w (faults t) (k .0) old)
 
     module _ (i : ℕ) where
-      pub message-none : n ≤ i → (m : ℕ) → noFault ≡ messageIn i m x
+      pub message-none : n ≤ i → (m : ℕ) → refusing (refused 17 []) ≡ messageIn i m x
       message-none =
-          of-tree (λ n y. n ≤ i → (m : ℕ) → noFault ≡ messageIn i m y) e (λ t k l m. at-none (λ o. noFault ≡ messageOr m o) (faults t) i l refl)
+          of-tree (λ n y. n ≤ i → (m : ℕ) → refusing (refused 17 []) ≡ messageIn i m y) e
+          (λ t k l m. at-none (λ o. refusing (refused 17 []) ≡ messageOr m o) (faults t) i l refl)
 
       pub message-some : i < n → (m : ℕ) → wroteIf m (recordMessage text (recordAt text w i)) ≡ messageIn i m x
       message-some =
@@ -123,12 +115,12 @@ module _ {text : Bytes} {x : Reading} {w : List ℕ} {r : Answer} (f : Finds tex
 
 -- ---- a refusal is the text's
 module _ {text : Bytes} {x : Reading} {w : List ℕ} {r : Answer} (f : Finds text x w r) {k l : ℕ} (e : r ≡ A.Refused k l) where
-  pub refused : refusal k l ≡ x
-  refused = by x f
+  pub is-refused : refusal k l ≡ x
+  is-refused = by x f
     where
       by : (y : Reading) → Finds text y w r → refusal k l ≡ y
       by (tree t) g = let z : _≡_ {A = ℕ} 0 1 = cc (g .answer) in absurd (omega arith)
       by (refusal k′ l′) g = cc (g .answer)
 
   pub name-refused : (i : ℕ) → Names text 0 0 (nameIn i x)
-  name-refused i = subst (λ y. Names text 0 0 (nameIn i y)) refused (refl, no-part text)
+  name-refused i = subst (λ y. Names text 0 0 (nameIn i y)) is-refused (refl, no-part text)

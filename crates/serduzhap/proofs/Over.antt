@@ -3,14 +3,14 @@ use Prim.Native.Nat.{ℕ, _≤_, _<_}
 use native.Mathlib.Omega.{arith}
 use native.Mathlib.Nat.{zero-add, sub-zero}
 use mathlib.Core.Path.{_≡_, refl, sym, ap, subst}
+use mathlib.Core.List.{[]}
 use lib.ListN.{length}
 use lib.Seq.{take-all}
 use borrow.Author.Tests.{lt-ltb, le-ltb}
 use Rattle.spec_text.specs.Bytes.{Bytes}
-use Rattle.spec_answers.specs.Answers.{over, wroteIf, wrote, tooLong}
+use Rattle.spec_answers.specs.Answers.{written, refused, Outcome, over, refusing, wroteIf}
 use Rattle.write_bytes.specs.PushModel.{bytesPushed}
-use Rattle.serduzhap.specs.declared.MessageResult.the-variants as M
-use Rattle.serduzhap.proofs.Cases.{Messages}
+use Rattle.serduzhap.specs.Calls.{Gives}
 
 -- a message: it is longer than the output, or it is written over it
 over-message : (m old : Bytes) → length m ≤ length old → bytesPushed old 0 m ≡ over m old
@@ -18,12 +18,13 @@ unfolding bytesPushed
 over-message m old h = rw (sub-zero, take-all (length old) m h, zero-add)
 
 module _ (m old : Bytes) {n : ℕ} (e : n ≡ length m) where
-  pub too-long : length old < n → Messages (wroteIf (length old) m) old M.TooLong old
+  pub too-long : length old < n → Gives (wroteIf (length old) m) old old (refused 18 [])
   too-long h =
-      let q : wroteIf (length old) m ≡ tooLong = rw (lt-ltb (length old) (length m) (omega arith), wroteIf) in
-      subst (λ a. Messages a old M.TooLong old) (sym q) (refl, refl)
+      let q : wroteIf (length old) m ≡ refusing (refused 18 []) = rw (lt-ltb (length old) (length m) (omega arith), wroteIf) in
+      subst (λ o. Gives o old old (refused 18 [])) (sym q) (refl, refl)
 
-  pub fits : n ≤ length old → Messages (wroteIf (length old) m) old (M.Written n) (bytesPushed old 0 m)
+  pub fits : n ≤ length old → Gives (wroteIf (length old) m) old (bytesPushed old 0 m) (written n)
   fits h =
-      let q : wroteIf (length old) m ≡ wrote m = rw (le-ltb (length old) (length m) (omega arith), wroteIf) in
-      subst (λ a. Messages a old (M.Written n) (bytesPushed old 0 m)) (sym q) (ap M.Written e, over-message m old (omega arith))
+      let whole : Outcome = record { answer = written (length m); writes = m } in
+      let q : wroteIf (length old) m ≡ whole = rw (le-ltb (length old) (length m) (omega arith), wroteIf) in
+      subst (λ o. Gives o old (bytesPushed old 0 m) (written n)) (sym q) (ap written e, over-message m old (omega arith))

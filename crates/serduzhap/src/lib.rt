@@ -6,10 +6,9 @@ use spec_text::refusal;
 ghost use mathlib.Core.Path.{_≡_};
 ghost use Prim.Native.Nat.{_<_, _*_};
 ghost use lib.ListN.{length};
-ghost use Rattle.spec_answers.specs.Answers.{messageOut, wroteIf, name};
+ghost use Rattle.spec_answers.specs.Answers.{wroteIf, name};
 ghost use Rattle.report_messages.specs.MessagesModel.{recordMessage};
-ghost use Rattle.spec_text.specs.Bytes.{partOf};
-ghost use Rattle.serduzhap.specs.Calls.{Checks, Reports, messageSays, Messages, partSays};
+ghost use Rattle.serduzhap.specs.Calls.{Checks, Gives, Reports, messageSays, Messages, Names};
 
 // Accepted; the record of the first fault; or a refusal, by number and line.
 pub enum CheckResult {
@@ -83,7 +82,7 @@ pub fn report(text: &[u8], work: &mut [u32], out: &mut [u32]) -> ReportResult
 // Writes the message of a record, if there is room for it.
 fn write_message(text: &[u8], out: &mut [u8], r: Record) -> MessageResult
     requires { ⌜ length (now text) < 4294967296 ⌝ }
-    ensures { λ m. ⌜ (m ≡ messageSays (wroteIf (length (now (out .entry))) (recordMessage (now (text .entry)) r))) × (now (out .exit) ≡ messageOut (wroteIf (length (now (out .entry))) (recordMessage (now (text .entry)) r)) (now (out .entry))) ⌝ }
+    ensures { λ m. ⌜ Gives (wroteIf (length (now (out .entry))) (recordMessage (now (text .entry)) r)) (now (out .entry)) (now (out .exit)) (messageSays m) ⌝ }
 {
     let len = report_messages::message_len(text, r);
     if out.len() < len {
@@ -113,7 +112,7 @@ pub fn message(text: &[u8], work: &mut [u32], i: usize, out: &mut [u8]) -> Messa
 
 // Where the name of fault i stands in the text; 0, 0 where there is none.
 pub fn name_part(text: &[u8], work: &mut [u32], i: usize) -> NamePart
-    ensures { λ r. ⌜ (r ≡ partSays (name (now (text .entry)) (length (now (work .entry))) i)) × (partOf (now (text .entry)) (r .offset) (r .len) ≡ name (now (text .entry)) (length (now (work .entry))) i .bytes) ⌝ }
+    ensures { λ r. ⌜ Names (now (text .entry)) (length (now (work .entry))) i r ⌝ }
 {
     match find_faults::find(text, work) {
         Answer::Faults { count } => {

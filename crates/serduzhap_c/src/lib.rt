@@ -5,7 +5,7 @@ use serduzhap::ReportResult;
 use spec_text::refusal;
 ghost use mathlib.Core.Path.{_≡_};
 ghost use lib.ListN.{length};
-ghost use Rattle.spec_answers.specs.Answers.{check, report, reportOut, message, messageOut, name};
+ghost use Rattle.spec_answers.specs.Answers.{check, over, report, message, name};
 ghost use Rattle.serduzhap.specs.Calls.{checkSays};
 ghost use Rattle.serduzhap_c.specs.Numbers.{checkNumbers, reportNumbers, messageNumbers, nameNumbers};
 
@@ -90,8 +90,8 @@ pub extern "C" fn serduzhap_check(text: &[u8], work: &mut [u32]) -> CheckNumbers
 // Writes all faults to the output as records of seven numbers.
 #[no_mangle]
 pub extern "C" fn serduzhap_report(text: &[u8], work: &mut [u32], out: &mut [u32]) -> ReportNumbers
-    ensures { λ r. ⌜ r ≡ reportNumbers (report (now (text .entry)) (length (now (work .entry))) (length (now (out .entry)))) ⌝ }
-    ensures { λ r. ⌜ now (out .exit) ≡ reportOut (report (now (text .entry)) (length (now (work .entry))) (length (now (out .entry)))) (now (out .entry)) ⌝ }
+    ensures { λ r. ⌜ r ≡ reportNumbers (report (now (text .entry)) (length (now (work .entry))) (length (now (out .entry))) .answer) ⌝ }
+    ensures { λ r. ⌜ now (out .exit) ≡ over (report (now (text .entry)) (length (now (work .entry))) (length (now (out .entry))) .writes) (now (out .entry)) ⌝ }
 {
     match serduzhap::report(text, work, out) {
         ReportResult::Written { count } => ReportNumbers {
@@ -115,8 +115,8 @@ pub extern "C" fn serduzhap_message(
     i: usize,
     out: &mut [u8],
 ) -> MessageNumbers
-    ensures { λ r. ⌜ r ≡ messageNumbers (message (now (text .entry)) (length (now (work .entry))) i (length (now (out .entry)))) ⌝ }
-    ensures { λ r. ⌜ now (out .exit) ≡ messageOut (message (now (text .entry)) (length (now (work .entry))) i (length (now (out .entry)))) (now (out .entry)) ⌝ }
+    ensures { λ r. ⌜ r ≡ messageNumbers (message (now (text .entry)) (length (now (work .entry))) i (length (now (out .entry))) .answer) ⌝ }
+    ensures { λ r. ⌜ now (out .exit) ≡ over (message (now (text .entry)) (length (now (work .entry))) i (length (now (out .entry))) .writes) (now (out .entry)) ⌝ }
 {
     match serduzhap::message(text, work, i, out) {
         MessageResult::Written { len } => MessageNumbers {

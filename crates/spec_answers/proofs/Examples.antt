@@ -4,8 +4,9 @@ use Prim.Native.Nat.{ℕ}
 use Prim.Native.String.{String}
 use mathlib.Core.Path.{_≡_, refl}
 use mathlib.Core.List.{List, [], _∷_, _++_, map}
+use lib.ListN.{length}
 use Rattle.spec_text.specs.Bytes.{Bytes, bytes}
-use Rattle.spec_answers.specs.Answers.{faulty, ReportAnswer, written, MessageAnswer, wrote, noFault, tooLong, check, report, message, name, over}
+use Rattle.spec_answers.specs.Answers.{written, faulty, refused, check, Outcome, refusing, report, message, name, over}
 use Rattle.spec_answers.specs.Printed.{printed}
 
 pub namecheck-example : printed (bytes "tree\t0\t1\nexpr\t0\t7\ncall\t0\t7\t1\nvar\t0\t4\tprnt\nlit\t5\t6\n") ≡ bytes "fault\t9\t0\t7\tUndefined function: prnt\nfaults\t1\n"
@@ -43,7 +44,14 @@ table =
 pub table-check : map (λ (f : Fault). check (bytes (f .text)) 16_384) table ≡ map (λ (f : Fault). faulty (f .first)) table
 table-check = refl
 
-pub table-message : map (λ (f : Fault). message (bytes (f .text)) 16_384 0 100) table ≡ map (λ (f : Fault). wrote (bytes (f .words))) table
+-- what is written, so many numbers or bytes of it
+abbrev wrote : ℕ → List ℕ → Outcome
+wrote n ns = record { answer = written n; writes = ns }
+
+abbrev said : String → Outcome
+said s = wrote (length (bytes s)) (bytes s)
+
+pub table-message : map (λ (f : Fault). message (bytes (f .text)) 16_384 0 100) table ≡ map (λ (f : Fault). said (f .words)) table
 table-message = refl
 
 -- ---- 16 to 18
@@ -53,26 +61,26 @@ y = bytes "tree\t0\t1\nexpr\t0\t1\nvar\t0\t1\ty\n"
 abbrev pass : Bytes
 pass = bytes "tree\t0\t1\npass\t0\t4\n"
 
-pub report-16 : report y 16_384 6 ≡ ReportAnswer.refused 16 1
+pub report-16 : report y 16_384 6 ≡ refusing (refused 16 (1 ∷ []))
 report-16 = refl
 
-pub report-7-numbers : report y 16_384 7 ≡ written (8 ∷ 0 ∷ 1 ∷ 26 ∷ 1 ∷ 0 ∷ 0 ∷ []) 1
+pub report-7-numbers : report y 16_384 7 ≡ wrote 1 (8 ∷ 0 ∷ 1 ∷ 26 ∷ 1 ∷ 0 ∷ 0 ∷ [])
 report-7-numbers = refl
 
-pub message-17 : message pass 16_384 0 0 ≡ noFault
+pub message-17 : message pass 16_384 0 0 ≡ refusing (refused 17 [])
 message-17 = refl
 
-pub message-18 : message y 16_384 0 20 ≡ tooLong
+pub message-18 : message y 16_384 0 20 ≡ refusing (refused 18 [])
 message-18 = refl
 
-pub message-21-bytes : message y 16_384 0 21 ≡ wrote (bytes "Undefined variable: y")
+pub message-21-bytes : message y 16_384 0 21 ≡ said "Undefined variable: y"
 message-21-bytes = refl
 
 -- 17 before 18, and a refusal before both
-pub message-order : message y 16_384 1 0 ≡ noFault
+pub message-order : message y 16_384 1 0 ≡ refusing (refused 17 [])
 message-order = refl
 
-pub message-refused : message [] 16_384 0 0 ≡ MessageAnswer.refused 3 1
+pub message-refused : message [] 16_384 0 0 ≡ refusing (refused 3 (1 ∷ []))
 message-refused = refl
 
 -- the name of a fault; of none, of kind 14, of a refused text

@@ -10,64 +10,79 @@ use Rattle.spec_text.specs.Bytes.{Bytes, Part, noPart}
 use Rattle.spec_text.specs.Reading.{Reading, tree, refusal, reading}
 use Rattle.spec_faults.specs.Faults.{Fault, faults, recordLength, record7, records, messageOf}
 
--- ---- "check: accepted, or the first fault as its record", or a refusal: its number and its line
-pub data CheckAnswer : Type 0 where
-  accepted : CheckAnswer
-  faulty : List ℕ → CheckAnswer
-  refused : ℕ → ℕ → CheckAnswer
+-- ---- an answer, in the numbers of FORMAT.md
+-- accepted; written, so many records or bytes; a fault, the seven numbers of its record; refused, the number and what it carries
+pub data Answer : Type 0 where
+  accepted : Answer
+  written : ℕ → Answer
+  faulty : List ℕ → Answer
+  refused : ℕ → List ℕ → Answer
 
-abbrev pub firstRecord : List Fault → CheckAnswer
+-- "1 to 7 carry a line number from 1 (0 for 1 and 2)"
+abbrev pub refusedAt : ℕ → ℕ → Answer
+refusedAt k n = refused k (n ∷ [])
+
+-- ---- "check: accepted, or the first fault as its record"
+abbrev pub firstRecord : List Fault → Answer
 firstRecord [] = accepted
 firstRecord (f ∷ fs) = faulty (record7 f)
 
-abbrev pub checkOf : Reading → CheckAnswer
+abbrev pub checkOf : Reading → Answer
 checkOf (tree t) = firstRecord (faults t)
-checkOf (refusal k n) = refused k n
+checkOf (refusal k n) = refusedAt k n
 
-abbrev pub check : Bytes → ℕ → CheckAnswer
+abbrev pub check : Bytes → ℕ → Answer
 check text work = checkOf (reading text work)
 
+-- ---- an answer, and what it writes to the output buffer from the start
+pub record Outcome : Type 0 where
+  pub answer : Answer
+  pub writes : List ℕ
+
+-- "No refusal changes an output buffer; an answer changes nothing past what it writes."
+-- an output buffer after numbers or bytes were written to it from the start
+abbrev pub over : List ℕ → List ℕ → List ℕ
+over new old = new ++ drop (length new) old
+
+abbrev pub refusing : Answer → Outcome
+refusing a = record { answer = a; writes = [] }
+
 -- ---- "report: writes all faults to an output buffer and returns their count"
--- the numbers written and the count; or a refusal, with its line, or with the count for 16: "output shorter than 7 × faults"
-pub data ReportAnswer : Type 0 where
-  written : List ℕ → ℕ → ReportAnswer
-  refused : ℕ → ℕ → ReportAnswer
+-- of these faults, to an output of this length; 16, "output shorter than 7 × faults", carries their number
+abbrev pub reported : ℕ → List Fault → Outcome
+reported out fs =
+    elim (ltb out (recordLength * length fs)) [
+      | true ↦ refusing (refused 16 (length fs ∷ []))
+      | false ↦ record { answer = written (length fs); writes = records fs }
+    ]
 
--- of these faults, to an output of this length
-abbrev pub reported : ℕ → List Fault → ReportAnswer
-reported out fs = elim (ltb out (recordLength * length fs)) [ true ↦ ReportAnswer.refused 16 (length fs) | false ↦ written (records fs) (length fs) ]
-
-abbrev pub reportOf : ℕ → Reading → ReportAnswer
+abbrev pub reportOf : ℕ → Reading → Outcome
 reportOf out (tree t) = reported out (faults t)
-reportOf out (refusal k n) = ReportAnswer.refused k n
+reportOf out (refusal k n) = refusing (refusedAt k n)
 
-abbrev pub report : Bytes → ℕ → ℕ → ReportAnswer
+abbrev pub report : Bytes → ℕ → ℕ → Outcome
 report text work out = reportOf out (reading text work)
 
 -- ---- "message: writes fault i (from 0, in the report's order) in the Rust's words and returns the length"
--- the bytes written; a refusal with its line; 17, "no fault i"; 18, "message longer than the output"
-pub data MessageAnswer : Type 0 where
-  wrote : Bytes → MessageAnswer
-  refused : ℕ → ℕ → MessageAnswer
-  noFault tooLong : MessageAnswer
-
 abbrev pub nthFault : List Fault → ℕ → Option Fault
 nthFault [] i = none
 nthFault (f ∷ fs) zero = some f
 nthFault (f ∷ fs) (suc i) = nthFault fs i
 
-abbrev pub wroteIf : ℕ → Bytes → MessageAnswer
-wroteIf out m = elim (ltb out (length m)) [ true ↦ tooLong | false ↦ wrote m ]
+-- 18, "message longer than the output"; 17 and 18 carry nothing
+abbrev pub wroteIf : ℕ → Bytes → Outcome
+wroteIf out m = elim (ltb out (length m)) [ true ↦ refusing (refused 18 []) | false ↦ record { answer = written (length m); writes = m } ]
 
-abbrev pub messageOr : ℕ → Option Fault → MessageAnswer
-messageOr out none = noFault
+-- 17, "no fault i"
+abbrev pub messageOr : ℕ → Option Fault → Outcome
+messageOr out none = refusing (refused 17 [])
 messageOr out (some f) = wroteIf out (messageOf f)
 
-abbrev pub messageIn : ℕ → ℕ → Reading → MessageAnswer
+abbrev pub messageIn : ℕ → ℕ → Reading → Outcome
 messageIn i out (tree t) = messageOr out (nthFault (faults t) i)
-messageIn i out (refusal k n) = MessageAnswer.refused k n
+messageIn i out (refusal k n) = refusing (refusedAt k n)
 
-abbrev pub message : Bytes → ℕ → ℕ → ℕ → MessageAnswer
+abbrev pub message : Bytes → ℕ → ℕ → ℕ → Outcome
 message text work i out = messageIn i out (reading text work)
 
 -- ---- name: "the name of fault i is handed back as a part of the tree text. The part is empty, at offset 0, for kind 14, for any of refusals
@@ -82,18 +97,3 @@ nameIn i (refusal k n) = noPart
 
 abbrev pub name : Bytes → ℕ → ℕ → Part
 name text work i = nameIn i (reading text work)
-
--- ---- "No refusal changes an output buffer; an answer changes nothing past what it writes."
--- an output buffer after numbers or bytes were written to it from the start
-abbrev pub over : List ℕ → List ℕ → List ℕ
-over new old = new ++ drop (length new) old
-
-abbrev pub reportOut : ReportAnswer → List ℕ → List ℕ
-reportOut (written ns k) old = over ns old
-reportOut (ReportAnswer.refused k n) old = old
-
-abbrev pub messageOut : MessageAnswer → Bytes → Bytes
-messageOut (wrote m) old = over m old
-messageOut (MessageAnswer.refused k n) old = old
-messageOut noFault old = old
-messageOut tooLong old = old

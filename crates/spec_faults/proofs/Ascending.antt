@@ -4,12 +4,15 @@
 use Prim.Native.Nat.{ℕ, suc, _+_, _≤_}
 use native.Mathlib.Omega.{arith}
 use native.Mathlib.Nat.{le-refl, le-trans}
+use mathlib.Core.Path.{_≡_, refl}
 use mathlib.Core.Bool.{Bool, true, false, cond, not}
 use mathlib.Core.List.{List, [], _∷_, _++_}
 use lib.ListN.{length}
+use Rattle.spec_text.specs.Bytes.{In, here, there}
 use Rattle.spec_text.specs.Tree.{Line, Expr, Exprs, Attrs, Stmt, Stmts, Methods, Tree, var, node, access, tuple, call, lambda, enil, econs, anil, acons, simple, assign, block, choice, for, def, class, snil, scons, mnil, mcons, lenE, lenEs, lenAs, lenS, lenSs, lenMs, firstLine}
 use Rattle.spec_faults.specs.Position.{Home, inModule, inDef, inMethod, Where, Use, value, Role, isRead, isTarget, isRefused, isDef, isClass, isLambda, isOther, isFor, isMethod, Visited, atModule, underClass, linesE, linesEs, linesT, linesTs, linesAs, linesS, linesSs, linesMs, visited}
-use Rattle.spec_faults.specs.Faults.{Binding, Fault, bindings, unless, lacksSelf, refusedAt, selfless, judged, judge, keep}
+use Rattle.spec_faults.specs.Bindings.{Binding, bindings}
+use Rattle.spec_faults.specs.Faults.{Fault, unless, lacksSelf, refusedAt, selfless, judged, judge, keep}
 use Rattle.spec_faults.proofs.Lists.{All, none, also}
 use Rattle.spec_faults.proofs.Read.{read-fault}
 
@@ -47,6 +50,17 @@ ascend-keep {key} p (next {lo} {hi} {a} {as′} h r) = go (p a) (ascend-keep p r
 pub ascend-above : {A : Type 0} {key : A → ℕ} {low lo hi : ℕ} {l : List A} → low ≤ lo → Ascend key lo hi l → All (λ (a : A). low ≤ key a) l
 ascend-above h (end i) = none
 ascend-above {key} {low} h (next {a} i r) = also (le-trans h i) (ascend-above (let j : low ≤ suc (key a) = omega arith in j) r)
+
+-- by its key, an element of such a list is from lo on, and it is the only one
+pub ascend-in : {A : Type 0} {key : A → ℕ} {lo hi : ℕ} {a : A} {l : List A} → Ascend key lo hi l → In a l → lo ≤ key a
+ascend-in (next h r) here = h
+ascend-in {key} {lo} {a} (next {a = b} h r) (there i) = let j : suc (key b) ≤ key a = ascend-in r i in omega arith
+
+pub ascend-only : {A : Type 0} {key : A → ℕ} {lo hi : ℕ} {a b : A} {l : List A} → Ascend key lo hi l → In a l → In b l → key a ≡ key b → a ≡ b
+ascend-only (next h r) here here e = refl
+ascend-only (next h r) here (there j) e = absurd (omega (arith, ascend-in r j))
+ascend-only (next h r) (there i) here e = absurd (omega (arith, ascend-in r i))
+ascend-only (next h r) (there i) (there j) e = ascend-only r i j e
 
 -- ---- the visited lines
 abbrev pub Numbered : ℕ → ℕ → List Visited → Type 0

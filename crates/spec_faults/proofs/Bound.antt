@@ -8,7 +8,7 @@ use mathlib.Core.List.{List, [], _∷_, _++_, append-assoc, append-nil, map}
 use Rattle.spec_text.specs.Bytes.{Part}
 use Rattle.spec_text.specs.Tree.{Line, Expr, Exprs, Attrs, Stmt, Stmts, Methods, var, node, access, tuple, call, lambda, enil, econs, anil, acons, simple, assign, block, choice, for, def, class, snil, scons, mnil, mcons, lenE, lenEs, lenS, lenSs, lenMs}
 use Rattle.spec_faults.specs.Position.{Home, inModule, inDef, inMethod, Where, Use, value, Visited, underClass, linesE, linesEs, linesT, linesTs, linesAs, linesS, linesSs, linesMs, underLambda, underBlock}
-use Rattle.spec_faults.specs.Faults.{How, byDef, byClass, byParam, byFor, byTarget, Binding, bind, params, boundAt, boundIn}
+use Rattle.spec_faults.specs.Bindings.{How, byDef, byClass, byParam, byFor, byTarget, Binding, bind, params, boundAt, boundIn}
 use Rattle.spec_faults.proofs.Lists.{Each, each-append, each-map}
 
 -- ---- the bindings of a part that begins at line n; k is the block around it

@@ -1,134 +1,19 @@
--- The first of a list of faults as the Rust's error, and lambdas: the Rust's check of the captured names finds the first capture that
--- the walk lists, and where it passes, the Rust's walk of the body finds the first fault that the walk lists inside.
--- A free name of a body is judged by one test g; under a lambda with parameters ps the test becomes `bound ps g`, and nothing else changes.
+-- The captures of a lambda: the walk lists the names that fail the Rust's check, in the order of the reads, each once. So the check passes
+-- where none is listed, in any order; else it stops at one of them, and in the order of the reads at the first.
 use Prim.Native.Nat.{ℕ, suc, _+_}
-use mathlib.Core.Path.{_≡_, refl, sym, ap, ap₂, _∙_, subst}
-use mathlib.Core.Bool.{Bool, true, false, cond, not, _&&_, _||_, and-not-self, false≢true}
+use mathlib.Core.Path.{_≡_, refl, sym, ap, _∙_, subst}
+use mathlib.Core.Bool.{Bool, true, false, cond, not, _||_, true≢false}
 use mathlib.Core.List.{List, [], _∷_, _++_}
 use mathlib.Core.Option.{none, some}
-use Rattle.spec_text.specs.Bytes.{Bytes, Part, mem}
+use Rattle.spec_text.specs.Bytes.{Bytes, Part, same, mem, any, In}
 use Rattle.spec_text.specs.Tree.{Line, Expr, Exprs, var, node, access, tuple, call, lambda, enil, econs, lenE}
-use Rattle.spec_faults.specs.Position.{Placed, inModule, Use, value, callee}
-use Rattle.spec_faults.specs.Faults.{Fault, undefinedHere, unless, keep, capture}
-use Rattle.spec_faults.specs.Rust.{ScopeStack, known, SemanticError, error, Checked, check, and-then, check-name, callee-or, collect-free-vars, collect-free-vars-all, check-captured, analyze-expr-module, analyze-exprs-module, analyze-expr-function, analyze-exprs-function, errorOf, firstError}
+use Rattle.spec_faults.specs.Position.{Placed, Use, value, callee}
+use Rattle.spec_faults.specs.Faults.{Fault, faultAt, unless, capture}
+use Rattle.spec_faults.specs.Rust.{error, Checked, and-then, collect-free-vars, collect-free-vars-all, check-captured, Order, Rearranges, errorOf, Answers, captured as one-captured}
 use Rattle.spec_faults.proofs.ListingWalk.{State, Env, withParams, Mode, plain, captures, inside, test, once, walkE, walkEs}
-use Rattle.spec_faults.proofs.Lists.{mem-append}
-use Rattle.spec_faults.proofs.Stack.{pushed, known-enter}
-
--- ---- the first fault
--- what the Rust's check c finds is the first of the faults F
-pub record Finds (F : List Fault) (c : Checked) : Type 0 where
-  pub is : firstError F ≡ c
-
-pub finds-as : {F : List Fault} {c d : Checked} → c ≡ d → Finds F c → Finds F d
-finds-as e f = record { is = f .is ∙ e }
-
-pub finds-unless : (t : Bool) (f : Fault) → Finds (unless t f) (check t (errorOf f))
-finds-unless true f = record { is = refl }
-finds-unless false f = record { is = refl }
-
-first-append : (a b : List Fault) → firstError (a ++ b) ≡ and-then (firstError a) (firstError b)
-first-append [] b = refl
-first-append (f ∷ a) b = refl
-
-pub finds-both : {a b : List Fault} {c d : Checked} → Finds a c → Finds b d → Finds (a ++ b) (and-then c d)
-finds-both {a} {b} f g = record { is = first-append a b ∙ ap₂ and-then (f .is) (g .is) }
-
--- what follows matters only where the check passes
-finds-passed : {a b : List Fault} (c : Checked) {d : Checked} → Finds a c → (c ≡ none → Finds b d) → Finds (a ++ b) (and-then c d)
-finds-passed {a} {b} none f g = finds-both f (g refl)
-finds-passed {a} {b} (some e) f g = record { is = first-append a b ∙ ap (λ c. and-then c (firstError b)) (f .is) }
-
-finds-once : {a : List Fault} {c : Checked} → Finds a c → Finds (once [] a) c
-finds-once {a} f = record { is = go a ∙ f .is }
-  where
-    kept : (t : Bool) (f : Fault) (a b : List Fault) → firstError (cond t (f ∷ a) (f ∷ b)) ≡ some (errorOf f)
-    kept true f a b = refl
-    kept false f a b = refl
-
-    go : (a : List Fault) → firstError (once [] a) ≡ firstError a
-    go [] = refl
-    go (f ∷ a) = kept (capture (f .kind)) f (once (f .name ∷ []) a) (once [] a)
-
--- ---- names that pass a test
-abbrev pub Fine : (Bytes → Bool) → List Part → Type 0
-Fine g [] = Unit {0}
-Fine g (x ∷ xs) = (g (x .bytes) ≡ true) × Fine g xs
-
--- a name is a parameter, or passes the test
-abbrev pub bound : List Part → (Bytes → Bool) → Bytes → Bool
-bound ps g x = mem x ps || g x
-
-abbrev free : List Part → List Part → List Part
-free ps xs = keep (λ (x : Part). not (mem (x .bytes) ps)) xs
-
-abbrev passed : Checked → Bool
-passed none = true
-passed (some e) = false
-
-fine-of : (k : ℕ) (l : Line) (g : Bytes → Bool) (xs : List Part) → check-captured k l g xs ≡ none → Fine g xs
-fine-of k l g [] h = tt
-fine-of k l g (x ∷ xs) h = go (g (x .bytes)) refl (fine-of k l g xs) h
-  where
-    go : (t : Bool) → g (x .bytes) ≡ t → (check-captured k l g xs ≡ none → Fine g xs)
-        → and-then (check t (error k (x .bytes) [] l)) (check-captured k l g xs) ≡ none → Fine g (x ∷ xs)
-    go true e f h = (e, f h)
-    go false e f h = absurd (false≢true (ap passed h))
-
-of-fine : (k : ℕ) (l : Line) (g : Bytes → Bool) (xs : List Part) → Fine g xs → check-captured k l g xs ≡ none
-of-fine k l g [] f = refl
-of-fine k l g (x ∷ xs) f = rw (f .0) (of-fine k l g xs (f .1))
-
-fine-map : (g h : Bytes → Bool) (xs : List Part) → ((x : Bytes) → g x ≡ true → h x ≡ true) → Fine g xs → Fine h xs
-fine-map g h [] i f = tt
-fine-map g h (x ∷ xs) i f = (i (x .bytes) (f .0), fine-map g h xs i (f .1))
-
-fine-append : (g : Bytes → Bool) (a b : List Part) → Fine g (a ++ b) → Fine g a × Fine g b
-fine-append g [] b f = (tt, f)
-fine-append g (x ∷ a) b f = let h = fine-append g a b (f .1) in ((f .0, h .0), h .1)
-
-fine-one : (ps : List Part) (g : Bytes → Bool) (x : Part) → Fine g (cond (mem (x .bytes) ps) [] (x ∷ [])) → bound ps g (x .bytes) ≡ true
-fine-one ps g x = go (mem (x .bytes) ps)
-  where
-    go : (b : Bool) → Fine g (cond b [] (x ∷ [])) → (b || g (x .bytes)) ≡ true
-    go true f = refl
-    go false f = f .0
-
--- the captured names of two parts; of a read; and of what is no parameter
-module _ (k : ℕ) (l : Line) (g : Bytes → Bool) where
-  check-append : (a b : List Part) → and-then (check-captured k l g a) (check-captured k l g b) ≡ check-captured k l g (a ++ b)
-  check-append [] b = refl
-  check-append (x ∷ a) b = go (check (g (x .bytes)) (error k (x .bytes) [] l)) (check-append a b)
-    where
-      go : (c : Checked) → and-then (check-captured k l g a) (check-captured k l g b) ≡ check-captured k l g (a ++ b)
-          → and-then (and-then c (check-captured k l g a)) (check-captured k l g b) ≡ and-then c (check-captured k l g (a ++ b))
-      go none h = h
-      go (some e) h = refl
-
-  check-one : (ps : List Part) (x : Part)
-      → check (bound ps g (x .bytes)) (error k (x .bytes) [] l) ≡ check-captured k l g (cond (mem (x .bytes) ps) [] (x ∷ []))
-  check-one ps x = go (mem (x .bytes) ps)
-    where
-      alone : (c : Checked) → c ≡ and-then c none
-      alone none = refl
-      alone (some e) = refl
-
-      go : (b : Bool) → check (b || g (x .bytes)) (error k (x .bytes) [] l) ≡ check-captured k l g (cond b [] (x ∷ []))
-      go true = refl
-      go false = alone (check (g (x .bytes)) (error k (x .bytes) [] l))
-
-  check-free : (ps xs : List Part) → check-captured k l (bound ps g) xs ≡ check-captured k l g (free ps xs)
-  check-free ps [] = refl
-  check-free ps (x ∷ xs) = go (mem (x .bytes) ps) (free ps xs) (check-free ps xs)
-    where
-      go : (b : Bool) (ys : List Part) → check-captured k l (bound ps g) xs ≡ check-captured k l g ys
-          → and-then (check (b || g (x .bytes)) (error k (x .bytes) [] l)) (check-captured k l (bound ps g) xs)
-          ≡ check-captured k l g (cond (not b) (x ∷ ys) ys)
-      go true ys h = h
-      go false ys h = ap (and-then (check (g (x .bytes)) (error k (x .bytes) [] l))) h
-
-fine-free : (l : Line) (ps : List Part) (g : Bytes → Bool) (xs : List Part) → Fine g (free ps xs) → Fine (bound ps g) xs
-fine-free l ps g xs f = fine-of 0 l (bound ps g) xs (check-free 0 l g ps xs ∙ of-fine 0 l g (free ps xs) f)
+use Rattle.spec_faults.proofs.Lists.{same-eq, mem-append, mem-here, mem-there, All, none as all-none, also, all-in, any-in}
+use Rattle.spec_faults.proofs.Finds.{firstError, Finds, stop, stops-append}
+use Rattle.spec_faults.proofs.FreeNames.{Fine, bound, free, Looked, pass, fail, looked-through}
 
 -- ---- reads
 abbrev pub placed : ℕ → Line → Placed
@@ -145,175 +30,191 @@ abbrev pub readIn : Mode → Use → Placed → Env → State → List Fault
 readIn m u r v s = readAs (mem (nameOf r) (v .params)) m u r v s
 
 -- a lambda's parameters have no fault, and other reads are judged as around it
-read-under : (m : Mode) (u : Use) (r : Placed) (ps : List Part) (v : Env) (s : State) (t : Bool) (e : SemanticError)
-    → (mem (nameOf r) ps ≡ false → Finds (readIn m u r v s) (check t e))
-    → Finds (readIn m u r (withParams ps v) s) (check (mem (nameOf r) ps || t) e)
-read-under m u r ps v s t e f =
-    subst (λ p. Finds (readAs p m u r v s) (check (mem (nameOf r) ps || t) e)) (sym (mem-append (nameOf r) ps (v .params))) (go (mem (nameOf r) ps) f)
+pub read-under : (m : Mode) (u : Use) (r : Placed) (ps : List Part) (v : Env) (s : State) (t : Bool) (f : Fault)
+    → (mem (nameOf r) ps ≡ false → readIn m u r v s ≡ unless t f) → readIn m u r (withParams ps v) s ≡ unless (mem (nameOf r) ps || t) f
+read-under m u r ps v s t f h = ap (λ p. readAs p m u r v s) (mem-append (nameOf r) ps (v .params)) ∙ go (mem (nameOf r) ps) h
   where
-    go : (b : Bool) → (b ≡ false → Finds (readIn m u r v s) (check t e))
-        → Finds (readAs (b || mem (nameOf r) (v .params)) m u r v s) (check (b || t) e)
-    go true f = record { is = refl }
-    go false f = f refl
-
--- the Rust's check of an expression by its use: for a callee that is a name, `name` at the line of the call
-abbrev byUse : Use → (Line → Checked) → Checked → Checked
-byUse value name c = c
-byUse (callee r) name c = name (r .line)
-
-abbrev pub used : Expr → Use → (Bytes → Line → Checked) → Checked → Checked
-used e u name c = callee-or e (λ x. byUse u (name x) c) c
-
-pub used-value : (e : Expr) (c : Checked) → callee-or e (λ x. c) c ≡ c
-used-value (var l) c = refl
-used-value (node l es) c = refl
-used-value (access l es) c = refl
-used-value (tuple l es) c = refl
-used-value (call l f es) c = refl
-used-value (lambda l e) c = refl
+    go : (b : Bool) → (b ≡ false → readIn m u r v s ≡ unless t f) → readAs (b || mem (nameOf r) (v .params)) m u r v s ≡ unless (b || t) f
+    go true h = refl
+    go false h = h refl
 
 -- ---- captures
--- in captures of the lambda at k, a read has the error of kind i unless its name passes g
+-- names, and the faults of those that fail the test g, as captures of kind i of the lambda at k
+data Listed (k : Placed) (i : ℕ) (g : Bytes → Bool) : List Part → List Fault → Type 0 where
+  end : Listed k i g [] []
+  passes : {x : Part} {xs : List Part} {F : List Fault} → g (x .bytes) ≡ true → Listed k i g xs F → Listed k i g (x ∷ xs) F
+  fails : (r : Placed) {xs : List Part} {F : List Fault} → g (nameOf r) ≡ false → Listed k i g xs F
+      → Listed k i g (r .line .name ∷ xs) (faultAt i k r ∷ F)
+
+module _ (k : Placed) (i : ℕ) (g : Bytes → Bool) where
+  listed-append : {a b : List Part} {F G : List Fault} → Listed k i g a F → Listed k i g b G → Listed k i g (a ++ b) (F ++ G)
+  listed-append end m = m
+  listed-append (passes h l) m = passes h (listed-append l m)
+  listed-append (fails r h l) m = fails r h (listed-append l m)
+
+  listed-one : (ps : List Part) (r : Placed)
+      → Listed k i g (cond (mem (nameOf r) ps) [] (r .line .name ∷ [])) (unless (bound ps g (nameOf r)) (faultAt i k r))
+  listed-one ps r = go (mem (nameOf r) ps) (g (nameOf r)) refl
+    where
+      go : (b t : Bool) → g (nameOf r) ≡ t → Listed k i g (cond b [] (r .line .name ∷ [])) (unless (b || t) (faultAt i k r))
+      go true t e = end
+      go false true e = passes e end
+      go false false e = fails r e end
+
+  listed-free : (ps : List Part) {xs : List Part} {F : List Fault} → Listed k i (bound ps g) xs F → Listed k i g (free ps xs) F
+  listed-free ps end = end
+  listed-free ps (passes {x} {xs} {F} h l) = go (mem (x .bytes) ps) h (listed-free ps l)
+    where
+      go : (b : Bool) → (b || g (x .bytes)) ≡ true → Listed k i g (free ps xs) F → Listed k i g (cond (not b) (x ∷ free ps xs) (free ps xs)) F
+      go true h l = l
+      go false h l = passes h l
+  listed-free ps (fails r {xs} {F} h l) = go (mem (nameOf r) ps) h (listed-free ps l)
+    where
+      go : (b : Bool) → (b || g (nameOf r)) ≡ false → Listed k i g (free ps xs) F
+          → Listed k i g (cond (not b) (r .line .name ∷ free ps xs) (free ps xs)) (faultAt i k r ∷ F)
+      go true h l = absurd (true≢false h)
+      go false h l = fails r h l
+
+-- in captures of the lambda at k, a read has the fault of kind i unless its name passes g
 abbrev pub Captures : Placed → ℕ → (Bytes → Bool) → Env → State → Type 0
-Captures k i g v s = (u : Use) (r : Placed) → Finds (readIn (captures k) u r v s) (check (g (nameOf r)) (error i (nameOf r) [] (k .line)))
+Captures k i g v s = (u : Use) (r : Placed) → readIn (captures k) u r v s ≡ unless (g (nameOf r)) (faultAt i k r)
 
 module _ (k : Placed) (i : ℕ) (s : State) where
   captures-under : (ps : List Part) (g : Bytes → Bool) (v : Env) → Captures k i g v s → Captures k i (bound ps g) (withParams ps v) s
-  captures-under ps g v c u r = read-under (captures k) u r ps v s (g (nameOf r)) (error i (nameOf r) [] (k .line)) (λ e. c u r)
+  captures-under ps g v c u r = read-under (captures k) u r ps v s (g (nameOf r)) (faultAt i k r) (λ e. c u r)
 
   mutual
     captured : (e : Expr) (n : ℕ) (u : Use) (ps : List Part) (g : Bytes → Bool) (v : Env) → Captures k i (bound ps g) v s
-        → Finds (walkE e n u (captures k) v s) (check-captured i (k .line) g (collect-free-vars e ps))
-    captured (var l) n u ps g v c = finds-as (check-one i (k .line) g ps (l .name)) (c u (placed n l))
+        → Listed k i g (collect-free-vars e ps) (walkE e n u (captures k) v s)
+    captured (var l) n u ps g v c =
+        subst (Listed k i g (cond (mem (l .name .bytes) ps) [] (l .name ∷ []))) (sym (c u (placed n l))) (listed-one k i g ps (placed n l))
     captured (node l es) n u ps g v c = captured-all es (suc n) ps g v c
     captured (access l es) n u ps g v c = captured-all es (suc n) ps g v c
     captured (tuple l es) n u ps g v c = captured-all es (suc n) ps g v c
     captured (call l f es) n u ps g v c =
-        finds-as (check-append i (k .line) g (collect-free-vars f ps) (collect-free-vars-all es ps))
-        (finds-both (captured f (suc n) (callee (placed n l)) ps g v c) (captured-all es (suc n + lenE f) ps g v c))
+        listed-append k i g (captured f (suc n) (callee (placed n l)) ps g v c) (captured-all es (suc n + lenE f) ps g v c)
     captured (lambda l e) n u ps g v c =
-        finds-as (check-free i (k .line) g ps (collect-free-vars e (l .params)))
+        listed-free k i g ps
         (captured e (suc n) value (l .params) (bound ps g) (withParams (l .params) v) (captures-under (l .params) (bound ps g) v c))
 
     captured-all : (es : Exprs) (n : ℕ) (ps : List Part) (g : Bytes → Bool) (v : Env) → Captures k i (bound ps g) v s
-        → Finds (walkEs es n (captures k) v s) (check-captured i (k .line) g (collect-free-vars-all es ps))
-    captured-all enil n ps g v c = record { is = refl }
-    captured-all (econs e es) n ps g v c =
-        finds-as (check-append i (k .line) g (collect-free-vars e ps) (collect-free-vars-all es ps))
-        (finds-both (captured e n value ps g v c) (captured-all es (n + lenE e) ps g v c))
+        → Listed k i g (collect-free-vars-all es ps) (walkEs es n (captures k) v s)
+    captured-all enil n ps g v c = end
+    captured-all (econs e es) n ps g v c = listed-append k i g (captured e n value ps g v c) (captured-all es (n + lenE e) ps g v c)
 
--- a lambda: the check of its captures, and, where that passes, its body
-pub lambda-first : (l : Line) (e : Expr) (n : ℕ) (u : Use) (i : ℕ) (g : Bytes → Bool) (v : Env) (s : State) {c : Checked}
-    → Captures (placed n l) i g v s
-    → (Fine g (collect-free-vars e (l .params)) → Finds (walkE e (suc n) value inside (withParams (l .params) v) s) c)
-    → Finds (walkE (lambda l e) n u plain v s) (and-then (check-captured i l g (collect-free-vars e (l .params))) c)
-lambda-first l e n u i g v s c h =
-    let xs = collect-free-vars e (l .params) in
-    let d = captures-under (placed n l) i s (l .params) g v c in
-    finds-passed (check-captured i l g xs)
-    (finds-once (captured (placed n l) i s e (suc n) value (l .params) g (withParams (l .params) v) d))
-    (λ p. h (fine-of i l g xs p))
+-- ---- the captures that are listed, and the error of the check
+-- a capture of kind i at k
+data CaptureAt (k : Placed) (i : ℕ) : Fault → Type 0 where
+  at : (r : Placed) → CaptureAt k i (faultAt i k r)
 
--- ---- what else is faulty under a lambda
--- a callee that is a name, in the module and in a function
-abbrev pub nameM : ScopeStack → Bytes → Line → Checked
-nameM st x l = check (known st x) (error 9 x [] l)
+abbrev named : Bytes → Fault → Bool
+named y f = same y (f .name .bytes)
 
-abbrev pub nameF : List Part → List Part → ScopeStack → Bytes → Line → Checked
-nameF locals assigned st x l = check-name locals assigned st x (error 12 x [] l) (error 9 x [] l)
+module _ (k : Placed) (i : ℕ) (g : Bytes → Bool) where
+  listed-captures : {xs : List Part} {F : List Fault} → Listed k i g xs F → All (CaptureAt k i) F
+  listed-captures end = all-none
+  listed-captures (passes h l) = listed-captures l
+  listed-captures (fails r h l) = also (at r) (listed-captures l)
 
--- a captures' check that passes
-skip : (l : Line) (i : ℕ) (g : Bytes → Bool) (xs : List Part) {F : List Fault} {c : Checked} → Fine g xs → Finds F c
-    → Finds F (and-then (check-captured i l g xs) c)
-skip l i g xs {c = c} f h = finds-as (ap (λ d. and-then d c) (sym (of-fine i l g xs f))) h
+  -- none, where all names pass
+  listed-none : {xs : List Part} {F : List Fault} → Listed k i g xs F → Fine g xs → F ≡ []
+  listed-none end f = refl
+  listed-none (passes {x} {xs} h l) f = listed-none l (λ y m. f y (mem-there y x xs m))
+  listed-none (fails r {xs} h l) f = absurd (true≢false (sym (f (nameOf r) (mem-here (r .line .name) xs)) ∙ h))
 
--- in the module nothing else is faulty: each free name is known
-abbrev underEnv : List Part → Env
-underEnv qs = record { home = inModule; locals = []; params = qs }
+  -- a name that fails is among them
+  listed-named : {xs : List Part} {F : List Fault} → Listed k i g xs F → (y : Bytes) → mem y xs ≡ true → g y ≡ false → any (named y) F ≡ true
+  listed-named end y m n = m
+  listed-named (passes {x} {xs} {F} h l) y m n = go (same y (x .bytes)) refl m (λ m. listed-named l y m n)
+    where
+      go : (t : Bool) → same y (x .bytes) ≡ t → (t || mem y xs) ≡ true → (mem y xs ≡ true → any (named y) F ≡ true) → any (named y) F ≡ true
+      go true e m ih = absurd (true≢false (sym h ∙ ap g (sym (same-eq y (x .bytes) e)) ∙ n))
+      go false e m ih = ih m
+  listed-named (fails r {xs} {F} h l) y m n = go (same y (nameOf r)) m (λ m. listed-named l y m n)
+    where
+      go : (t : Bool) → (t || mem y xs) ≡ true → (mem y xs ≡ true → any (named y) F ≡ true) → (t || any (named y) F) ≡ true
+      go true m ih = refl
+      go false m ih = ih m
 
-knownM : (x : Part) (ps qs : List Part) (st : ScopeStack) (e : SemanticError) → Fine (known st) (cond (mem (x .bytes) ps) [] (x ∷ []))
-    → Finds (cond (mem (x .bytes) qs) [] []) (check (known (pushed ps st) (x .bytes)) e)
-knownM x ps qs st e f =
-    finds-as (ap (λ t. check t e) (sym (known-enter (x .bytes) ps st ∙ fine-one ps (known st) x f))) (go (mem (x .bytes) qs))
+  -- the first of them is the first name that fails
+  listed-first : {xs : List Part} {F : List Fault} → Listed k i g xs F → firstError F ≡ check-captured i (k .line) g xs
+  listed-first end = refl
+  listed-first (passes h l) = rw h (listed-first l)
+  listed-first (fails r h l) = rw h
+
+-- of each name the first is kept: so the first of all; only such as were there; and each name, unless it was seen
+once-first : (F : List Fault) → firstError (once [] F) ≡ firstError F
+once-first [] = refl
+once-first (f ∷ F) = go (capture (f .kind)) (once (f .name ∷ []) F) (once [] F)
   where
-    go : (b : Bool) → Finds (cond b [] []) none
-    go true = record { is = refl }
-    go false = record { is = refl }
+    go : (t : Bool) (a b : List Fault) → firstError (cond t (f ∷ a) (f ∷ b)) ≡ some (errorOf f)
+    go true a b = refl
+    go false a b = refl
 
-module _ (s : State) where
-  mutual
-    pub underM : (e : Expr) (n : ℕ) (u : Use) (ps qs : List Part) (st : ScopeStack) → Fine (known st) (collect-free-vars e ps)
-        → Finds (walkE e n u inside (underEnv qs) s) (used e u (nameM (pushed ps st)) (analyze-expr-module e (pushed ps st)))
-    underM (var l) n value ps qs st f = knownM (l .name) ps qs st (error 8 (l .name .bytes) [] l) f
-    underM (var l) n (callee r) ps qs st f = knownM (l .name) ps qs st (error 9 (l .name .bytes) [] (r .line)) f
-    underM (node l es) n u ps qs st f = underMs es (suc n) ps qs st f
-    underM (access l es) n u ps qs st f = underMs es (suc n) ps qs st f
-    underM (tuple l es) n u ps qs st f = underMs es (suc n) ps qs st f
-    underM (call l h es) n u ps qs st f =
-        let p = fine-append (known st) (collect-free-vars h ps) (collect-free-vars-all es ps) f in
-        finds-both (underM h (suc n) (callee (placed n l)) ps qs st (p .0)) (underMs es (suc n + lenE h) ps qs st (p .1))
-    underM (lambda l e) n u ps qs st f =
-        let xs = collect-free-vars e (l .params) in
-        let q = fine-map (bound ps (known st)) (known (pushed ps st)) xs (λ x h. known-enter x ps st ∙ h) (fine-free l ps (known st) xs f) in
-        skip l 10 (known (pushed ps st)) xs q
-        (finds-as (used-value e (analyze-expr-module e (pushed (l .params) (pushed ps st))))
-        (underM e (suc n) value (l .params) (l .params ++ qs) (pushed ps st) q))
-
-    underMs : (es : Exprs) (n : ℕ) (ps qs : List Part) (st : ScopeStack) → Fine (known st) (collect-free-vars-all es ps)
-        → Finds (walkEs es n inside (underEnv qs) s) (analyze-exprs-module es (pushed ps st))
-    underMs enil n ps qs st f = record { is = refl }
-    underMs (econs e es) n ps qs st f =
-        let p = fine-append (known st) (collect-free-vars e ps) (collect-free-vars-all es ps) f in
-        finds-both (finds-as (used-value e (analyze-expr-module e (pushed ps st))) (underM e n value ps qs st (p .0)))
-        (underMs es (n + lenE e) ps qs st (p .1))
-
--- inside, where its name passes g, a read is faulty unless the Rust knows its name
-abbrev pub Inside : (Bytes → Bool) → Env → State → ScopeStack → Type 0
-Inside g v s st =
-    (u : Use) (r : Placed) → g (nameOf r) ≡ true → Finds (readIn inside u r v s) (check (known st (nameOf r)) (errorOf (undefinedHere u r)))
-
-pub inside-under : (ps : List Part) (g : Bytes → Bool) (v : Env) (s : State) (st : ScopeStack) → Inside g v s st
-    → Inside (bound ps g) (withParams ps v) s (pushed ps st)
-inside-under ps g v s st c u r h =
-    finds-as (ap (λ t. check t (errorOf (undefinedHere u r))) (sym (known-enter (nameOf r) ps st)))
-    (read-under inside u r ps v s (known st (nameOf r)) (errorOf (undefinedHere u r)) (λ e. c u r (sym (ap (λ t. t || g (nameOf r)) e) ∙ h)))
-
--- In a function the locals of a lambda's body are its parameters, and all of them are assigned: a name there is faulty unless it is known,
--- and an inner lambda captures nothing unbound.
-knownF : (ps : List Part) (st : ScopeStack) (x : Bytes) (e f : SemanticError)
-    → check (known (pushed ps st) x) f ≡ check-name ps ps (pushed ps st) x e f
-knownF ps st x e f = go (mem x ps) (known (pushed ps st) x) (known-enter x ps st)
+once-all : {P : Fault → Type 0} (seen : List Part) {F : List Fault} → All P F → All P (once seen F)
+once-all seen all-none = all-none
+once-all {P} seen (also {a = f} {l = F} p a) =
+    go (capture (f .kind)) (mem (f .name .bytes) seen) (once-all seen a) (once-all (f .name ∷ seen) a)
   where
-    go : (b t : Bool) → t ≡ (b || known st x) → check t f ≡ cond b (check b e) (check t f)
-    go true t h = rw h
-    go false t h = refl
+    go : (c t : Bool) → All P (once seen F) → All P (once (f .name ∷ seen) F)
+        → All P (cond c (cond t (once seen F) (f ∷ once (f .name ∷ seen) F)) (f ∷ once seen F))
+    go true true a b = a
+    go true false a b = also p b
+    go false t a b = also p a
 
-module _ (s : State) where
-  mutual
-    pub underF : (e : Expr) (n : ℕ) (u : Use) (ps : List Part) (g : Bytes → Bool) (st : ScopeStack) (v : Env) → Inside (bound ps g) v s (pushed ps st)
-        → Fine g (collect-free-vars e ps)
-        → Finds (walkE e n u inside v s) (used e u (nameF ps ps (pushed ps st)) (analyze-expr-function e (pushed ps st) ps ps))
-    underF (var l) n value ps g st v c f = finds-as (knownF ps st (l .name .bytes) _ _) (c value (placed n l) (fine-one ps g (l .name) f))
-    underF (var l) n (callee r) ps g st v c f = finds-as (knownF ps st (l .name .bytes) _ _) (c (callee r) (placed n l) (fine-one ps g (l .name) f))
-    underF (node l es) n u ps g st v c f = underFs es (suc n) ps g st v c f
-    underF (access l es) n u ps g st v c f = underFs es (suc n) ps g st v c f
-    underF (tuple l es) n u ps g st v c f = underFs es (suc n) ps g st v c f
-    underF (call l h es) n u ps g st v c f =
-        let p = fine-append g (collect-free-vars h ps) (collect-free-vars-all es ps) f in
-        finds-both (underF h (suc n) (callee (placed n l)) ps g st v c (p .0)) (underFs es (suc n + lenE h) ps g st v c (p .1))
-    underF (lambda l e) n u ps g st v c f =
-        let xs = collect-free-vars e (l .params) in
-        let q = fine-free l ps g xs f in
-        let unbound : Bytes → Bool = λ x. not (mem x ps && not (mem x ps)) in
-        skip l 13 unbound xs (fine-map (bound ps g) unbound xs (λ x h. ap not (and-not-self (mem x ps))) q)
-        (finds-as (used-value e (analyze-expr-function e (pushed (l .params) (pushed ps st)) (l .params) (l .params)))
-        (underF e (suc n) value (l .params) (bound ps g) (pushed ps st) (withParams (l .params) v)
-        (inside-under (l .params) (bound ps g) v s (pushed ps st) c) q))
+once-named : (y : Bytes) (seen : List Part) (F : List Fault) → mem y seen ≡ false → any (named y) F ≡ true → any (named y) (once seen F) ≡ true
+once-named y seen [] m h = h
+once-named y seen (f ∷ F) m h =
+    go (capture (f .kind)) (mem (f .name .bytes) seen) (named y f) refl refl h (once-named y seen F m) (once-named y (f .name ∷ seen) F)
+  where
+    go : (c t b : Bool) → mem (f .name .bytes) seen ≡ t → named y f ≡ b → (b || any (named y) F) ≡ true
+        → (any (named y) F ≡ true → any (named y) (once seen F) ≡ true)
+        → (mem y (f .name ∷ seen) ≡ false → any (named y) F ≡ true → any (named y) (once (f .name ∷ seen) F) ≡ true)
+        → any (named y) (cond c (cond t (once seen F) (f ∷ once (f .name ∷ seen) F)) (f ∷ once seen F)) ≡ true
+    go true true true p q h a b = absurd (true≢false (sym p ∙ ap (λ z. mem z seen) (sym (same-eq y (f .name .bytes) q)) ∙ m))
+    go true true false p q h a b = a h
+    go true false true p q h a b = rw q
+    go true false false p q h a b = rw q (b (ap (λ t. t || mem y seen) q ∙ m) h)
+    go false t true p q h a b = rw q
+    go false t false p q h a b = rw q (a h)
 
-    underFs : (es : Exprs) (n : ℕ) (ps : List Part) (g : Bytes → Bool) (st : ScopeStack) (v : Env) → Inside (bound ps g) v s (pushed ps st)
-        → Fine g (collect-free-vars-all es ps) → Finds (walkEs es n inside v s) (analyze-exprs-function es (pushed ps st) ps ps)
-    underFs enil n ps g st v c f = record { is = refl }
-    underFs (econs e es) n ps g st v c f =
-        let p = fine-append g (collect-free-vars e ps) (collect-free-vars-all es ps) f in
-        finds-both (finds-as (used-value e (analyze-expr-function e (pushed ps st) ps ps)) (underF e n value ps g st v c (p .0)))
-        (underFs es (n + lenE e) ps g st v c (p .1))
+module _ (k : Placed) (i : ℕ) (c : capture i ≡ true) where
+  capture-answers : {F : List Fault} {f : Fault} → All (CaptureAt k i) F → In f F → CaptureAt k i f → Answers (some (errorOf f)) F
+  capture-answers (also (at r) a) n (at q) = one-captured c n refl refl refl refl
+
+  -- a name that fails: its error is an answer beside the captures that are listed
+  failed-answers : (g : Bytes → Bool) {xs : List Part} {F : List Fault} → Listed k i g xs F → (y : Bytes) → mem y xs ≡ true → g y ≡ false
+      → Answers (some (error i y [] (k .line))) (once [] F)
+  failed-answers g {F = F} l y m n =
+      let s = any-in (named y) (once [] F) (once-named y [] F refl (listed-named k i g l y m n)) in
+      go (s .0) (s .1) (all-in all (s .1)) (s .2)
+    where
+      all : All (CaptureAt k i) (once [] F)
+      all = once-all [] (listed-captures k i g l)
+
+      go : (f : Fault) → In f (once [] F) → CaptureAt k i f → named y f ≡ true → Answers (some (error i y [] (k .line))) (once [] F)
+      go f n (at r) e = subst (λ z. Answers (some (error i z [] (k .line))) (once [] F)) (sym (same-eq y (nameOf r) e)) (capture-answers all n (at r))
+
+-- ---- a lambda: the check of its captures, and, where that passes, its body
+module _ (order : Order) (same-names : Rearranges order) where
+  -- the check and what follows it, beside the captures and what else is listed
+  checked : (k : Placed) (i : ℕ) (g : Bytes → Bool) {xs : List Part} {F G : List Fault} {c : Checked} → capture i ≡ true → Listed k i g xs F
+      → (Fine g xs → Finds order G c) → Finds order (once [] F ++ G) (and-then (check-captured i (k .line) g (order (k .line) xs)) c)
+  checked k i g {xs} {F} {G} {c} t l h = go (check-captured i (k .line) g (order (k .line) xs)) refl (looked-through order same-names i (k .line) g xs)
+    where
+      go : (d : Checked) → check-captured i (k .line) g (order (k .line) xs) ≡ d → Looked i (k .line) g xs d
+          → Finds order (once [] F ++ G) (and-then d c)
+      go none q (pass f) = subst (λ F. Finds order (once [] F ++ G) c) (sym (listed-none k i g l f)) (h f)
+      go (some d) q (fail y m b) =
+          stop (stops-append G record {
+            answers = failed-answers k i t g l y m b;
+            in-order = λ o. once-first F ∙ listed-first k i g l ∙ sym (ap (λ o. check-captured i (k .line) g (o (k .line) xs)) o) ∙ q;
+          })
+
+  pub lambda-finds : (l : Line) (e : Expr) (n : ℕ) (u : Use) (i : ℕ) (g : Bytes → Bool) (v : Env) (s : State) {c : Checked}
+      → capture i ≡ true → Captures (placed n l) i g v s
+      → (Fine g (collect-free-vars e (l .params)) → Finds order (walkE e (suc n) value inside (withParams (l .params) v) s) c)
+      → Finds order (walkE (lambda l e) n u plain v s) (and-then (check-captured i l g (order l (collect-free-vars e (l .params)))) c)
+  lambda-finds l e n u i g v s t c h =
+      checked (placed n l) i g t
+      (captured (placed n l) i s e (suc n) value (l .params) g (withParams (l .params) v) (captures-under (placed n l) i s (l .params) g v c)) h

@@ -8,7 +8,8 @@ use mathlib.Core.Bool.{Bool, _&&_, _||_, or-assoc, or-false}
 use mathlib.Core.List.{List, _++_}
 use lib.Dec.{eqb}
 use Rattle.spec_text.specs.Bytes.{any}
-use Rattle.spec_faults.specs.Faults.{Binding, earlier}
+use Rattle.spec_faults.specs.Bindings.{Binding}
+use Rattle.spec_faults.specs.Faults.{earlier}
 use Rattle.spec_faults.proofs.Lists.{any-append}
 use Rattle.spec_faults.proofs.Bound.{Range}
 use Rattle.spec_faults.proofs.Earlier.{quiet, not-yet, all-there}

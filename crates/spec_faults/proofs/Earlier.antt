@@ -9,7 +9,8 @@ use mathlib.Core.List.{List, [], _∷_, _++_, map}
 use lib.Dec.{eqb}
 use Rattle.spec_text.specs.Bytes.{Bytes, Part, same, mem, any}
 use Rattle.spec_faults.specs.Position.{Placed, Home, Use}
-use Rattle.spec_faults.specs.Faults.{byParam, Binding, bind, earlier, among, bound, judgeRead}
+use Rattle.spec_faults.specs.Bindings.{byParam, Binding, bind}
+use Rattle.spec_faults.specs.Faults.{earlier, among, bound, judgeRead}
 use borrow.Author.Tests.{ne-eqb, le-leb, lt-leb}
 use Rattle.spec_faults.proofs.Lists.{eqb-same, any-same, any-or, any-none, Each, each-map, any-each, any-quiet}
 use Rattle.spec_faults.proofs.Bound.{In, Range}

@@ -11,7 +11,8 @@ use Rattle.spec_text.specs.Bytes.{Bytes, Part, same, mem, any}
 use Rattle.spec_text.specs.Tree.{Stmts, Tree, lenSs, firstLine}
 use Rattle.spec_faults.specs.Builtins.{builtinNames}
 use Rattle.spec_faults.specs.Position.{inModule, atModule, linesSs, visited}
-use Rattle.spec_faults.specs.Faults.{given, Binding, bind, givenTo, bindings, earlier, among, counts, assigned, judge}
+use Rattle.spec_faults.specs.Bindings.{given, Binding, bind, givenTo, bindings, counts}
+use Rattle.spec_faults.specs.Faults.{earlier, among, assigned, judge}
 use borrow.Author.Tests.{ne-eqb, le-leb}
 use Rattle.spec_faults.proofs.Lists.{any-append}
 use Rattle.spec_faults.proofs.Bound.{bindsSs, boundSs, rangeSs}

@@ -2,15 +2,17 @@
 use Prim.Native.Nat.{ℕ, _+_, _≤_}
 use native.Mathlib.Omega.{arith}
 use mathlib.Core.Path.{_≡_, refl, sym, ap, ap₂, _∙_}
-use mathlib.Core.Bool.{Bool, true, false, cond, _&&_, _||_, or-assoc, or-true}
-use mathlib.Core.List.{List, [], _∷_, _++_}
+use mathlib.Core.Logic.{_⊎_, inl, inr, ⊎-elim}
+use mathlib.Core.Bool.{Bool, true, false, cond, _&&_, _||_, or-assoc, or-true, false≢true}
+use mathlib.Core.List.{List, [], _∷_, _++_, map}
 use lib.Dec.{eqb}
 use lib.ListN.{length}
 use borrow.Author.Tests.{eq-eqb}
-use Rattle.spec_text.specs.Bytes.{Bytes, Part, same, mem, any, all}
-pub use Rattle.spec_text.proofs.Lists.{and-split, eqb-sym, same-eq, All, all-nil as none, all-cons as also}
+use Rattle.spec_text.specs.Bytes.{Bytes, Part, same, mem, any, all, In, here, there}
+pub use Rattle.spec_text.proofs.Lists.{and-split, eqb-sym, same-refl, same-eq, All, all-nil as none, all-cons as also}
 use Rattle.spec_faults.specs.Position.{Visited}
-use Rattle.spec_faults.specs.Faults.{Binding, Fault, faultOf, judge, keep}
+use Rattle.spec_faults.specs.Bindings.{Binding}
+use Rattle.spec_faults.specs.Faults.{Fault, faultOf, judge, keep}
 
 -- ---- tests
 pub eqb-same : (k : ℕ) → eqb k k ≡ true
@@ -26,6 +28,12 @@ same-sym (a ∷ x) (b ∷ y) = ap₂ _&&_ (eqb-sym a b) (same-sym x y)
 pub mem-append : (x : Bytes) (a b : List Part) → mem x (a ++ b) ≡ (mem x a || mem x b)
 mem-append x [] b = refl
 mem-append x (y ∷ a) b = ap (λ t. same x (y .bytes) || t) (mem-append x a b) ∙ sym (or-assoc (same x (y .bytes)) (mem x a) (mem x b))
+
+pub mem-here : (x : Part) (xs : List Part) → mem (x .bytes) (x ∷ xs) ≡ true
+mem-here x xs = ap (λ t. t || mem (x .bytes) xs) (same-refl (x .bytes))
+
+pub mem-there : (y : Bytes) (x : Part) (xs : List Part) → mem y xs ≡ true → mem y (x ∷ xs) ≡ true
+mem-there y x xs m = ap (λ t. same y (x .bytes) || t) m ∙ or-true (same y (x .bytes))
 
 -- ---- any
 or-swap : (a b c d : Bool) → (a || b || (c || d)) ≡ (a || c || (b || d))
@@ -50,6 +58,42 @@ module _ {A : Type 0} where
   any-none f h [] = refl
   any-none f h (a ∷ l) = ap₂ _||_ (h a) (any-none f h l)
 
+-- ---- one of a list
+pub in-left : {A : Type 0} {a : A} {l : List A} (m : List A) → In a l → In a (l ++ m)
+in-left m here = here
+in-left m (there i) = there (in-left m i)
+
+pub in-right : {A : Type 0} {a : A} (l : List A) {m : List A} → In a m → In a (l ++ m)
+in-right [] i = i
+in-right (b ∷ l) i = there (in-right l i)
+
+pub in-either : {A : Type 0} {a : A} (l : List A) {m : List A} → In a (l ++ m) → In a l ⊎ In a m
+in-either [] i = inr i
+in-either (b ∷ l) here = inl here
+in-either (b ∷ l) (there i) = ⊎-elim (λ j. inl (there j)) inr (in-either l i)
+
+pub in-map : {A B : Type 0} (f : A → B) {a : A} {l : List A} → In a l → In (f a) (map f l)
+in-map f here = here
+in-map f (there i) = there (in-map f i)
+
+pub map-in : {A B : Type 0} (f : A → B) (l : List A) {b : B} → In b (map f l) → (a : A) × In a l × (f a ≡ b)
+map-in f (a ∷ l) here = (a, here, refl)
+map-in f (a ∷ l) (there i) = let p = map-in f l i in (p .0, there (p .1), p .2)
+
+-- a test that some element passes, and that element
+module _ {A : Type 0} (f : A → Bool) where
+  pub any-in : (l : List A) → any f l ≡ true → (a : A) × In a l × (f a ≡ true)
+  any-in [] e = absurd (false≢true e)
+  any-in (a ∷ l) e = go (f a) refl e (any-in l)
+    where
+      go : (b : Bool) → f a ≡ b → (b || any f l) ≡ true → (any f l ≡ true → (c : A) × In c l × (f c ≡ true)) → (c : A) × In c (a ∷ l) × (f c ≡ true)
+      go true d e next = (a, here, d)
+      go false d e next = let n = next e in (n .0, there (n .1), n .2)
+
+  pub in-any : {a : A} {l : List A} → In a l → f a ≡ true → any f l ≡ true
+  in-any (here {l}) e = ap (λ b. b || any f l) e
+  in-any (there {b} {l} i) e = ap (λ c. f b || c) (in-any i e) ∙ or-true (f b)
+
 -- some visited line has such a fault: such a fault is among theirs
 pub any-judge : (p : Fault → Bool) (bs : List Binding) (vs : List Visited) → any (λ (v : Visited). any p (faultOf bs v)) vs ≡ any p (judge bs vs)
 any-judge p bs [] = refl
@@ -63,6 +107,10 @@ all-append (also h a) b = also h (all-append a b)
 pub all-map : {A : Type 0} {P Q : A → Type 0} {l : List A} → ((a : A) → P a → Q a) → All P l → All Q l
 all-map f none = none
 all-map f (also {a} h r) = also (f a h) (all-map f r)
+
+pub all-in : {A : Type 0} {P : A → Type 0} {a : A} {l : List A} → All P l → In a l → P a
+all-in (also h r) here = h
+all-in (also h r) (there i) = all-in r i
 
 pub all-two : {A : Type 0} (p : A → Bool) (l m : List A) → all p l ≡ true → all p m ≡ true → all p (l ++ m) ≡ true
 all-two p [] m h i = i

@@ -12,7 +12,8 @@ use borrow.Author.Tests.{eqb-true, eqb-false, eq-eqb, ne-eqb, lt-ltb, le-ltb}
 use Rattle.spec_text.specs.Bytes.{Bytes, same, Part, mem, any}
 use Rattle.spec_text.specs.Tree.{Tree, lenSs, firstLine}
 use Rattle.spec_faults.specs.Position.{Visited, visited}
-use Rattle.spec_faults.specs.Faults.{Binding, bindings, Fault, faultOf, judge, capture, precedes, repeated, keep, byPlace, faults}
+use Rattle.spec_faults.specs.Bindings.{Binding, bindings}
+use Rattle.spec_faults.specs.Faults.{Fault, faultOf, judge, capture, precedes, repeated, keep, byPlace, faults}
 use Rattle.spec_faults.proofs.Lists.{same-sym, same-eq, any-judge}
 use Rattle.spec_faults.proofs.ListingWalk.{once}
 use Rattle.spec_faults.proofs.Ascending.{end, next, ascend-here, Lined, faults-ascend}

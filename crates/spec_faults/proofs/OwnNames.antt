@@ -9,7 +9,7 @@ use lib.Dec.{eqb}
 use Rattle.spec_text.specs.Bytes.{Bytes, Part, same, mem, any}
 use Rattle.spec_text.specs.Tree.{Expr, Exprs, Stmt, Stmts, var, node, access, tuple, call, lambda, enil, econs, simple, assign, block, choice, for, def, class, snil, scons, lenE, lenS, lenSs}
 use Rattle.spec_faults.specs.Position.{Home, inModule, inDef, inMethod}
-use Rattle.spec_faults.specs.Faults.{byDef, byClass, byFor, byTarget, Binding, bind, params}
+use Rattle.spec_faults.specs.Bindings.{byDef, byClass, byFor, byTarget, Binding, bind, params}
 use Rattle.spec_faults.specs.Rust.{collect-locals, collect-locals-of, collect-locals-from-target, collect-locals-from-targets}
 use Rattle.spec_faults.proofs.Lists.{eqb-same, mem-append, any-append}
 use Rattle.spec_faults.proofs.Bound.{bindsE, bindsEs, bindsT, bindsTs, inClassesB, bindsS, bindsSs, bindsMs, Range, range-block, rangeE, rangeEs, rangeSs, rangeMs}

@@ -8,7 +8,8 @@ use mathlib.Core.Bool.{Bool, true, false, not}
 use mathlib.Core.List.{List, [], _∷_}
 use Rattle.spec_text.specs.Tree.{Line, Expr, Exprs, Attrs, Stmt, Stmts, Methods, Tree, var, node, access, tuple, call, lambda, enil, econs, anil, acons, simple, assign, block, choice, for, def, class, snil, scons, mnil, mcons, lenE, lenEs, lenS, lenSs, lenMs, firstLine}
 use Rattle.spec_faults.specs.Position.{Placed, Home, inModule, inDef, inMethod, Where, Use, value, callee, Visited, atModule, underLambda, underBlock, underClass, linesE, linesEs, linesT, linesTs, linesAs, linesS, linesSs, linesMs, visited}
-use Rattle.spec_faults.specs.Faults.{Binding, bindings, Fault, outermost, unless, lacksSelf, refusedAt, selfless, faultOf, judge}
+use Rattle.spec_faults.specs.Bindings.{Binding, bindings}
+use Rattle.spec_faults.specs.Faults.{Fault, outermost, unless, lacksSelf, refusedAt, selfless, faultOf, judge}
 use Rattle.spec_faults.proofs.Lists.{All, none, also, all-append}
 use Rattle.spec_faults.proofs.Read.{PlaceOf, itself, its-call, its-lambda, read-fault}
 

@@ -4,7 +4,8 @@ use mathlib.Core.Bool.{Bool, true, false}
 use mathlib.Core.List.{List, [], _∷_}
 use Rattle.spec_text.specs.Tree.{Line}
 use Rattle.spec_faults.specs.Position.{Placed, Home, inModule, inDef, inMethod, Where, Use, value, callee, isRead}
-use Rattle.spec_faults.specs.Faults.{Binding, lambdaParam, own, assigned, inView, Fault, faultAt, outermost, unless, undefinedHere, unbound, undefined, judgeRead, judged}
+use Rattle.spec_faults.specs.Bindings.{Binding}
+use Rattle.spec_faults.specs.Faults.{lambdaParam, own, assigned, inView, Fault, faultAt, outermost, unless, undefinedHere, unbound, undefined, judgeRead, judged}
 
 -- where the fault of a read r may be placed
 pub data PlaceOf (r : Placed) : List Placed → Use → Placed → Type 0 where

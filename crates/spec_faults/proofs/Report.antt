@@ -13,7 +13,8 @@ use borrow.Author.Tests.{eqb-true, eqb-false, eq-eqb, ne-eqb, lt-ltb}
 use Rattle.spec_text.specs.Bytes.{any, all}
 use Rattle.spec_text.specs.Tree.{Tree, lenSs, firstLine}
 use Rattle.spec_faults.specs.Position.{visited}
-use Rattle.spec_faults.specs.Faults.{bindings, Fault, is, judge, repeated, keep, byPlace, faults, isFault, before, ordered}
+use Rattle.spec_faults.specs.Bindings.{bindings}
+use Rattle.spec_faults.specs.Faults.{Fault, is, judge, repeated, keep, byPlace, faults, isFault, before, ordered}
 use Rattle.spec_faults.proofs.Lists.{and-split, any-judge, none, also, all-map, all-two, keep-all, all-keep, keep-keep, keep-every, count, count-append, count-none, count-any}
 use Rattle.spec_faults.proofs.Ascending.{end, next, ascend-length, ascend-keep, ascend-above, Lined, faults-ascend}
 use Rattle.spec_faults.proofs.Once.{placed}

@@ -1,15 +1,16 @@
--- Scripts a to k as one theorem, a table: from the bytes of a tree text to its full report, and to the Rust walk's answer.
+-- Scripts a to k as one theorem, a table: from the bytes of a tree text to its full report, and to the Rust walk's answer in the order of the reads.
 use Prim.Native.Nat.{ℕ}
 use Prim.Native.String.{String}
-use mathlib.Core.Path.{_≡_, refl}
+use mathlib.Core.Path.{_≡_, refl, sym, ap, _∙_}
+use mathlib.Core.Bool.{_||_, or-assoc, or-comm}
 use mathlib.Core.List.{List, [], _∷_, map}
 use mathlib.Core.Option.{none, some}
-use Rattle.spec_text.specs.Bytes.{bytes}
+use Rattle.spec_text.specs.Bytes.{same, bytes, mem}
 use Rattle.spec_text.specs.Reading.{Reading, tree, refusal, readTree}
 use lib.ListN.{length}
 use Rattle.spec_faults.specs.Builtins.{Builtin, builtins}
 use Rattle.spec_faults.specs.Faults.{fullReport}
-use Rattle.spec_faults.specs.Rust.{Checked, analyze-with-globals}
+use Rattle.spec_faults.specs.Rust.{Checked, Order, Rearranges, as-read, analyze-with-globals}
 
 -- a text's full report and the Rust's answer, or its refusal and line
 pub data Outcome : Type 0 where
@@ -17,7 +18,7 @@ pub data Outcome : Type 0 where
   refused : ℕ → ℕ → Outcome
 
 abbrev outcomeOf : Reading → Outcome
-outcomeOf (tree t) = judged (fullReport t) (analyze-with-globals t)
+outcomeOf (tree t) = judged (fullReport t) (analyze-with-globals as-read t)
 outcomeOf (refusal k n) = refused k n
 
 abbrev pub outcome : String → Outcome
@@ -107,6 +108,7 @@ pub data Further : Type 0 where
   captured-once : Further
   under-attr : Further
   class-in-def : Further
+  class-in-method : Further
   without-self : Further
   under-refused : Further
   callees : Further
@@ -134,6 +136,9 @@ further under-attr =
 -- unvisited: under a class in a def, also under an if; its name is bound there, and own
 further class-in-def =
     script "tree\t0\t1\ndef\t0\t60\tf\t2\nif\t9\t40\t1\t0\t0\nlit\t12\t13\nclass\t15\t40\tC\t1\t0\nmethod\tm\t1\nexpr\t30\t31\nvar\t30\t31\tq\nexpr\t50\t51\nvar\t50\t51\tC\n" (11 ∷ 50 ∷ 51 ∷ 119 ∷ 1 ∷ 0 ∷ 0 ∷ []) (rust 11 50 51 "Unbound local variable: C")
+-- the same in a method, where the name is in view
+further class-in-method =
+    script "tree\t0\t1\nclass\t0\t60\tD\t1\t0\nmethod\tk\t2\tself\nclass\t15\t40\tC\t1\t0\nmethod\tm\t1\nexpr\t30\t31\nvar\t30\t31\tq\nexpr\t50\t51\nvar\t50\t51\tC\n" [] none
 -- a method without self, then its body
 further without-self =
     script "tree\t0\t1\nclass\t0\t30\tC\t2\t0\nmethod\tm\t1\nexpr\t20\t21\nvar\t20\t21\tq\nmethod\tn\t0\tthis\tself\n" (15 ∷ 0 ∷ 30 ∷ 33 ∷ 1 ∷ 20 ∷ 1 ∷ 8 ∷ 20 ∷ 21 ∷ 58 ∷ 1 ∷ 0 ∷ 0 ∷ 15 ∷ 0 ∷ 30 ∷ 67 ∷ 1 ∷ 20 ∷ 1 ∷ []) (rust 15 0 30 "Method 'm' in class 'C' must have 'self' as first parameter")
@@ -171,6 +176,7 @@ further-hold def-does-not-count = refl
 further-hold captured-once = refl
 further-hold under-attr = refl
 further-hold class-in-def = refl
+further-hold class-in-method = refl
 further-hold without-self = refl
 further-hold under-refused = refl
 further-hold callees = refl
@@ -181,6 +187,27 @@ further-hold params-between = refl
 further-hold lambda-in-method = refl
 further-hold if-is-no-block = refl
 further-hold inner-hides = refl
+
+-- ---- another order of a lambda's captured names: the second before the first. Of the two captures of h the Rust names the other.
+abbrev exchanged : Order
+exchanged l [] = []
+exchanged l (x ∷ []) = x ∷ []
+exchanged l (x ∷ y ∷ xs) = y ∷ x ∷ xs
+
+pub exchanged-rearranges : Rearranges exchanged
+exchanged-rearranges l [] z = refl
+exchanged-rearranges l (x ∷ []) z = refl
+exchanged-rearranges l (x ∷ y ∷ xs) z =
+    sym (or-assoc (same z (y .bytes)) (same z (x .bytes)) (mem z xs))
+    ∙ ap (λ t. t || mem z xs) (or-comm (same z (y .bytes)) (same z (x .bytes)))
+    ∙ or-assoc (same z (x .bytes)) (same z (y .bytes)) (mem z xs)
+
+abbrev answerIn : Order → Reading → Checked
+answerIn order (tree t) = analyze-with-globals order t
+answerIn order (refusal m n) = none
+
+pub h-exchanged : answerIn exchanged (readTree (bytes (scripts h .text))) ≡ rust 10 0 13 "Undefined variable 'q' captured by lambda"
+h-exchanged = refl
 
 -- ---- the table of built-in names: thirteen, each with its length
 pub builtin-lengths : map (λ (b : Builtin). b .len) builtins ≡ map (λ (b : Builtin). length (b .name)) builtins

@@ -9,7 +9,8 @@ use lib.Dec.{eqb}
 use Rattle.spec_text.specs.Bytes.{Bytes, Part, same, mem, any}
 use Rattle.spec_text.specs.Tree.{Line, Expr, Exprs, Attrs, var, node, access, tuple, call, lambda, enil, econs, anil, acons, lenE, lenEs}
 use Rattle.spec_faults.specs.Position.{Home, inModule, inDef, inMethod, Where, numbers, path, underLambda, Use, value, callee, Visited, underClass, linesE, linesEs, linesAs}
-use Rattle.spec_faults.specs.Faults.{byParam, Binding, bind, params, earlier, bound, lambdaParam, own, assigned, Fault, judgeRead, faultOf, judge}
+use Rattle.spec_faults.specs.Bindings.{byParam, Binding, bind, params}
+use Rattle.spec_faults.specs.Faults.{earlier, bound, lambdaParam, own, assigned, Fault, judgeRead, faultOf, judge}
 use borrow.Author.Tests.{le-leb}
 use Rattle.spec_faults.proofs.Lists.{mem-append, any-append, Each}
 use Rattle.spec_faults.proofs.Bound.{bindsE, bindsEs, range-params, rangeE, rangeEs}

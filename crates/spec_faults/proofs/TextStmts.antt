@@ -9,7 +9,8 @@ use lib.Dec.{eqb}
 use Rattle.spec_text.specs.Bytes.{Bytes, Part, same, mem, any}
 use Rattle.spec_text.specs.Tree.{Line, Stmt, Stmts, Methods, simple, assign, block, choice, for, def, class, snil, scons, mnil, mcons, lenE, lenS, lenSs, lenMs}
 use Rattle.spec_faults.specs.Position.{Home, inModule, inDef, inMethod, Where, path, underBlock, value, linesE, linesT, linesAs, linesS, linesSs, linesMs}
-use Rattle.spec_faults.specs.Faults.{How, byDef, byClass, byParam, byFor, Binding, bind, params, earlier, own, counts, judge}
+use Rattle.spec_faults.specs.Bindings.{How, byDef, byClass, byParam, byFor, Binding, bind, params, counts}
+use Rattle.spec_faults.specs.Faults.{earlier, own, judge}
 use Rattle.spec_faults.specs.Rust.{collect-locals}
 use borrow.Author.Tests.{ne-eqb, lt-leb}
 use Rattle.spec_faults.proofs.Lists.{mem-append, any-same, Each, each-append, each-map, any-quiet}

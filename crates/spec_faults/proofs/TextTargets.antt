@@ -9,7 +9,8 @@ use lib.Dec.{eqb}
 use Rattle.spec_text.specs.Bytes.{Bytes, Part, same, mem}
 use Rattle.spec_text.specs.Tree.{Expr, Exprs, var, node, access, tuple, call, lambda, enil, econs, lenE, lenEs}
 use Rattle.spec_faults.specs.Position.{Where, numbers, path, value, Visited, linesE, linesEs, linesT, linesTs}
-use Rattle.spec_faults.specs.Faults.{How, byTarget, Binding, bind, among, bound, counts, assigned, Fault, judge}
+use Rattle.spec_faults.specs.Bindings.{How, byTarget, Binding, bind, counts}
+use Rattle.spec_faults.specs.Faults.{among, bound, assigned, Fault, judge}
 use borrow.Author.Tests.{le-leb}
 use Rattle.spec_faults.proofs.Lists.{eqb-same, Each, each-append, each-map}
 use Rattle.spec_faults.proofs.Bound.{bindsE, bindsEs, bindsT, bindsTs, Range, wide, rangeE, rangeEs, rangeT, rangeTs}

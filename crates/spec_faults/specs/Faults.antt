@@ -1,59 +1,14 @@
--- Faults by position: bindings and where they stand, the rules for reads, the full report. No stack of scopes, and no walk.
+-- Faults by position: the rules for reads, faults, the full report, the messages. No stack of scopes, and no walk.
 use Prim.Native.Nat.{ℕ, zero, suc}
 use Prim.Native.String.{String}
 use mathlib.Core.Bool.{Bool, true, false, cond, not, _&&_, _||_}
-use mathlib.Core.List.{List, [], _∷_, _++_, map}
+use mathlib.Core.List.{List, [], _∷_, _++_}
 use lib.Dec.{eqb, leb, ltb}
 use lib.ListN.{length}
 use Rattle.spec_text.specs.Bytes.{Bytes, bytes, same, Part, noPart, any, all}
 use Rattle.spec_text.specs.Tree.{Line, Tree, lenSs, firstLine}
-use Rattle.spec_faults.specs.Builtins.{builtinNames}
+use Rattle.spec_faults.specs.Bindings.{Binding, bindings, counts}
 use Rattle.spec_faults.specs.Position.{Placed, Home, inModule, inDef, inMethod, Where, numbers, blocks, Use, value, callee, Role, isRead, isTarget, isRefused, isDef, isClass, isLambda, isOther, isFor, isMethod, Visited, visited}
-
--- ---- bindings
-pub data How : Type 0 where
-  given byDef byClass byParam byFor byTarget : How
-
--- a binding: of a name, in a block. It stands before the line `from` and after the line before that.
-pub record Binding : Type 0 where
-  pub how : How
-  pub name : Part
-  pub block : ℕ
-  pub from : ℕ
-
-abbrev pub bind : How → ℕ → ℕ → Part → Binding
-bind h k n x = record { how = h; name = x; block = k; from = n }
-
--- parameters, "at the head of their block"
-abbrev pub params : ℕ → Line → List Binding
-params n l = map (bind byParam n (suc n)) (l .params)
-
--- "of visited lines only, parameters [..]; names of def and class, at their line, in the block around it; a `for` name, between iterable
--- and body; a `var` in target position, at its line"
-abbrev pub boundBy : Role → ℕ → Line → ℕ → List Binding
-boundBy (isRead u) n l k = []
-boundBy isTarget n l k = bind byTarget k (suc n) (l .name) ∷ []
-boundBy isRefused n l k = []
-boundBy isDef n l k = bind byDef k (suc n) (l .name) ∷ params n l
-boundBy isClass n l k = bind byClass k (suc n) (l .name) ∷ []
-boundBy isLambda n l k = params n l
-boundBy isOther n l k = []
-boundBy (isFor m) n l k = bind byFor k m (l .name) ∷ []
-boundBy (isMethod c) n l k = params n l
-
-abbrev pub boundAt : Visited → List Binding
-boundAt v = boundBy (v .role) (v .number) (v .line) (v .at .block)
-
-abbrev pub boundIn : List Visited → List Binding
-boundIn [] = []
-boundIn (v ∷ vs) = boundAt v ++ boundIn vs
-
--- "built-ins and globals, before all, in the module"
-abbrev pub givenTo : Tree → List Binding
-givenTo t = map (bind given 1 1) (builtinNames ++ t .globals)
-
-abbrev pub bindings : Tree → List Binding
-bindings t = givenTo t ++ boundIn (visited t)
 
 -- ---- the rules
 -- a binding stands earlier than line n
@@ -72,7 +27,7 @@ bound x ks n bs = any (λ (b : Binding). earlier n b && (among (b .block) ks && 
 abbrev pub inView : Bytes → ℕ → Where → List Binding → Bool
 inView x n w bs = bound x (blocks w) n bs
 
--- "a parameter of a lambda between it and its home": nothing else is bound in a lambda's block
+-- "a parameter of a lambda between it and its home": nothing else is bound in a lambda's block (`lambda-param`)
 abbrev pub lambdaParam : Bytes → ℕ → Where → List Binding → Bool
 lambdaParam x n w bs = bound x (numbers (w .lambdas)) n bs
 
@@ -82,15 +37,6 @@ abbrev pub own : Home → Bytes → ℕ → List Binding → Bool
 own inModule x k bs = false
 own inDef x k bs = any (λ (b : Binding). eqb k (b .block) && same x (b .name .bytes)) bs
 own inMethod x k bs = false
-
--- "A binding by def or class does not count (the Rust; Python differs)."
-abbrev pub counts : How → Bool
-counts given = false
-counts byDef = false
-counts byClass = false
-counts byParam = true
-counts byFor = true
-counts byTarget = true
 
 -- "An own name of a def is *assigned* when an earlier binding in that block is a parameter, `for` name or target."
 abbrev pub assigned : Bytes → ℕ → ℕ → List Binding → Bool

@@ -8,7 +8,7 @@ use mathlib.Core.Bool.{Bool, true, false}
 use mathlib.Core.List.{List, [], _∷_, _++_, append-assoc}
 use lib.Dec.{ltb}
 use lib.ListN.{length, take, drop, set, length-set, take-append-drop}
-use lib.Seq.{take-all, take-nil, take-suc-set, take-append-seam, drop-set-lt}
+use lib.Seq.{take-nil, take-suc-set, drop-set-lt}
 use borrow.Author.Tests.{ltb-true, ltb-false}
 use Rattle.write_bytes.specs.PushModel.{bytesPushed, pushedTo, Pushes}
 
@@ -99,11 +99,3 @@ pub push-more : (old : List ℕ) (at : ℕ) (new more : List ℕ) {mid out : Lis
     → Pushes old at new mid to → Pushes mid to more out end → Pushes old at (new ++ more) out end
 push-more old at new more p q =
     (q .0 ∙ rw (p .0, p .1) (pushed-more more old at new), q .1 ∙ rw (p .0, p .1) (to-more more old at new), q .2)
-
--- ---- to the start of a buffer that has room for it all
-pub pushed-whole : (old new : List ℕ) → length new ≤ length old → take (pushedTo old 0 new) (bytesPushed old 0 new) ≡ new
-unfolding bytesPushed pushedTo
-pushed-whole old new h =
-    let e : take (length old - 0) new ≡ new = take-all (length old - 0) new (omega arith) in
-    let z : 0 + length new ≡ length new = omega arith in
-    rw (e, z) (take-append-seam new (drop (length new) old))

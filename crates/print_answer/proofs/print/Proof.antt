@@ -4,7 +4,7 @@ use borrow.Author.Needs.{needs}
 use Rattle.spec_text.specs.Writing.{decimalOf, lineWith}
 use Rattle.write_bytes.proofs.Pushed.{push-more}
 use Rattle.print_lines.specs.LinesModel.{recordLines}
-use Rattle.print_answer.proofs.Reported.{print-written, print-refused}
+use Rattle.print_answer.proofs.Reported.{print-written, print-refused, prints}
 use Rattle.print_answer.proofs.print.Statement.{statement}
 use Rattle.print_answer.proofs.print.Tie as tie
 
@@ -42,9 +42,10 @@ returns c =
     let r = k .before .before in
     let a = r .before .before .before .before .before .args in
     let i = k .count .given .0 .0 in
-    rw (← print-written (a .text .now) (a .work .now) (a .report .now) (r .before .before .report-arg .given .0 .1) (r .before .report-arg2 .given .0 .1)
+    prints (a .text .now) (a .out .now)
+    (rw (← print-written (a .text .now) (a .work .now) (a .report .now) (r .before .before .report-arg .given .0 .1) (r .before .report-arg2 .given .0 .1)
     (r .report .result) (r .report .last .1 .1 .0) (r .report .ensures) i (k .count .given .1) .0)
-    (push-more (a .out .now) 0 (recordLines (a .text .now) (r .report .last .1 .1 .0) 0 i) (lineWith "faults" (decimalOf i ∷ [])) (p .push-faults .ensures) (n .push-count .ensures))
+    (push-more (a .out .now) 0 (recordLines (a .text .now) (r .report .last .1 .1 .0) 0 i) (lineWith "faults" (decimalOf i ∷ [])) (p .push-faults .ensures) (n .push-count .ensures)))
 
 same-length-2 : tie.Need-same-length-2
 same-length-2 c = search needs
@@ -55,8 +56,9 @@ returns-2 c =
     let k = p .before .before .before in
     let r = k .before .before in
     let a = r .before .before .before .before .before .args in
-    rw (← print-refused (a .text .now) (a .work .now) (a .report .now) (r .before .before .report-arg .given .0 .1) (r .before .report-arg2 .given .0 .1)
-    (r .report .result) (r .report .last .1 .1 .0) (r .report .ensures) (k .number .given .0 .0) (k .number .given .0 .1 .0) (k .number .given .1)) (p .push-refused .ensures)
+    prints (a .text .now) (a .out .now)
+    (rw (← print-refused (a .text .now) (a .work .now) (a .report .now) (r .before .before .report-arg .given .0 .1) (r .before .report-arg2 .given .0 .1)
+    (r .report .result) (r .report .last .1 .1 .0) (r .report .ensures) (k .number .given .0 .0) (k .number .given .0 .1 .0) (k .number .given .1)) (p .push-refused .ensures))
 
 pub print-spec : {M : Type 1} → statement M
 print-spec =

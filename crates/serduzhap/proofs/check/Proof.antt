@@ -3,7 +3,7 @@ use mathlib.Core.Path.{ap, _∙_}
 use borrow.Author.Needs.{needs}
 use Rattle.spec_answers.specs.Answers.{faulty, checkOf}
 use Rattle.report_records.specs.RecordsModel.{numbers}
-use Rattle.serduzhap.proofs.Cases.{check-accepted, check-faulty, refused}
+use Rattle.serduzhap.proofs.Cases.{check-accepted, check-faulty, is-refused}
 use Rattle.serduzhap.proofs.check.Statement.{statement}
 use Rattle.serduzhap.proofs.check.Tie as tie
 
@@ -43,7 +43,7 @@ same-length-3 c = search needs
 returns-3 : tie.Need-returns-3
 returns-3 c =
     let k = c .before in
-    ap checkOf (refused (k .before .before .before .before .find .ensures) (k .number .given .1))
+    ap checkOf (is-refused (k .before .before .before .before .find .ensures) (k .number .given .1))
 
 pub check-spec : {M : Type 1} → statement M
 check-spec =

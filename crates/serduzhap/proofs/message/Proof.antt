@@ -3,10 +3,9 @@ use mathlib.Core.Path.{ap, _∙_}
 use native.Mathlib.Omega.{arith}
 use lib.ListN.{length}
 use borrow.Author.Needs.{needs}
-use Rattle.spec_answers.specs.Answers.{wroteIf, messageIn, messageOut}
+use Rattle.spec_answers.specs.Answers.{Outcome, over, wroteIf, messageIn}
 use Rattle.report_messages.specs.MessagesModel.{recordMessage}
-use Rattle.serduzhap.specs.Calls.{messageSays}
-use Rattle.serduzhap.proofs.Cases.{few, message-none, message-some, refused}
+use Rattle.serduzhap.proofs.Cases.{few, message-none, message-some, is-refused}
 use Rattle.serduzhap.proofs.message.Statement.{statement}
 use Rattle.serduzhap.proofs.message.Tie as tie
 
@@ -26,7 +25,7 @@ returns c =
     let a = f .before .before .before .before .before .args in
     let o = a .out .now in
     let e = message-none (f .find .ensures) (k .count .given .1) (a .i) (c .if1 .taken) (length o) in
-    (ap messageSays e, ap (λ x. messageOut x o) e)
+    (ap (λ (x : Outcome). x .answer) e, ap (λ (x : Outcome). over (x .writes) o) e)
 
 record-at-requires : tie.Need-record-at-requires
 record-at-requires c κs =
@@ -59,7 +58,7 @@ returns-2 c =
     let e =
     ap (λ x. wroteIf (length o) (recordMessage (a .text .now) x)) (r .record-at .ensures)
     ∙ message-some (f .find .ensures) (k .count .given .1) (a .i) (i .if1 .left) (length o) in
-    (m .write-message .ensures .0 ∙ ap messageSays e, m .write-message .ensures .1 ∙ ap (λ x. messageOut x o) e)
+    (m .write-message .ensures .0 ∙ ap (λ (x : Outcome). x .answer) e, m .write-message .ensures .1 ∙ ap (λ (x : Outcome). over (x .writes) o) e)
 
 same-length-4 : tie.Need-same-length-4
 same-length-4 c = search needs
@@ -70,8 +69,8 @@ returns-3 c =
     let f = k .before .before .before .before in
     let a = f .before .before .before .before .before .args in
     let o = a .out .now in
-    let e = refused (f .find .ensures) (k .number .given .1) in
-    (ap (λ x. messageSays (messageIn (a .i) (length o) x)) e, ap (λ x. messageOut (messageIn (a .i) (length o) x) o) e)
+    let e = is-refused (f .find .ensures) (k .number .given .1) in
+    (ap (λ x. messageIn (a .i) (length o) x .answer) e, ap (λ x. over (messageIn (a .i) (length o) x .writes) o) e)
 
 pub message-spec : {M : Type 1} → statement M
 message-spec =

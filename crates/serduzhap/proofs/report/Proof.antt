@@ -3,9 +3,8 @@ use mathlib.Core.Path.{ap, _∙_}
 use native.Mathlib.Omega.{arith}
 use lib.ListN.{length}
 use borrow.Author.Needs.{needs}
-use Rattle.spec_answers.specs.Answers.{reportOf, reportOut}
-use Rattle.serduzhap.specs.Calls.{reportSays}
-use Rattle.serduzhap.proofs.Cases.{few, report-short, report-written, refused}
+use Rattle.spec_answers.specs.Answers.{over, reportOf}
+use Rattle.serduzhap.proofs.Cases.{few, report-short, report-written, is-refused}
 use Rattle.serduzhap.proofs.report.Statement.{statement}
 use Rattle.serduzhap.proofs.report.Tie as tie
 
@@ -63,8 +62,8 @@ returns-3 c =
     let k = c .before in
     let f = k .before .before .before .before in
     let o = f .before .before .before .before .before .args .out .now in
-    let e = refused (f .find .ensures) (k .number .given .1) in
-    (ap (λ x. reportSays (reportOf (length o) x)) e, ap (λ x. reportOut (reportOf (length o) x) o) e)
+    let e = is-refused (f .find .ensures) (k .number .given .1) in
+    (ap (λ x. reportOf (length o) x .answer) e, ap (λ x. over (reportOf (length o) x .writes) o) e)
 
 pub report-spec : {M : Type 1} → statement M
 report-spec =

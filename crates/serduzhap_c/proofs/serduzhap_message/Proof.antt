@@ -1,6 +1,7 @@
 -- What `message` promises, its answer in numbers; what it writes is as it is.
 use lib.ListN.{length}
 use borrow.Author.Needs.{needs}
+use Rattle.spec_answers.specs.Answers.{message}
 use Rattle.serduzhap_c.proofs.Cases.{message-in}
 use Rattle.serduzhap_c.proofs.serduzhap_message.Statement.{statement}
 use Rattle.serduzhap_c.proofs.serduzhap_message.Tie as tie
@@ -30,7 +31,7 @@ returns : tie.Need-returns
 returns c =
     let f = c .before .before .before .before .before .before .before in
     let a = f .before .before .before .before .before .before .args in
-    message-in (a .text .now) (length (a .work .now)) (a .i) (a .out .now) (f .message .ensures) (c .before .len .given .1)
+    message-in (message (a .text .now) (length (a .work .now)) (a .i) (length (a .out .now))) (a .out .now) (f .message .ensures) (c .before .len .given .1)
 
 same-length-3 : tie.Need-same-length-3
 same-length-3 c = search needs
@@ -42,7 +43,7 @@ returns-2 : tie.Need-returns-2
 returns-2 c =
     let f = c .before .before .before .before .before .before .before in
     let a = f .before .before .before .before .before .before .args in
-    message-in (a .text .now) (length (a .work .now)) (a .i) (a .out .now) (f .message .ensures) (c .before .number .given .1)
+    message-in (message (a .text .now) (length (a .work .now)) (a .i) (length (a .out .now))) (a .out .now) (f .message .ensures) (c .before .number .given .1)
 
 same-length-5 : tie.Need-same-length-5
 same-length-5 c = search needs
@@ -54,7 +55,7 @@ returns-3 : tie.Need-returns-3
 returns-3 c =
     let f = c .before .before .before .before .before .before in
     let a = f .before .before .before .before .before .before .args in
-    message-in (a .text .now) (length (a .work .now)) (a .i) (a .out .now) (f .message .ensures) (c .enum-told .given .1)
+    message-in (message (a .text .now) (length (a .work .now)) (a .i) (length (a .out .now))) (a .out .now) (f .message .ensures) (c .enum-told .given .1)
 
 same-length-7 : tie.Need-same-length-7
 same-length-7 c = search needs
@@ -66,7 +67,7 @@ returns-4 : tie.Need-returns-4
 returns-4 c =
     let f = c .before .before .before .before .before .before in
     let a = f .before .before .before .before .before .before .args in
-    message-in (a .text .now) (length (a .work .now)) (a .i) (a .out .now) (f .message .ensures) (c .enum-told2 .given .1)
+    message-in (message (a .text .now) (length (a .work .now)) (a .i) (length (a .out .now))) (a .out .now) (f .message .ensures) (c .enum-told2 .given .1)
 
 pub serduzhap-message-spec : {M : Type 1} → statement M
 serduzhap-message-spec =

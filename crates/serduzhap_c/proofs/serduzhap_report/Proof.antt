@@ -1,6 +1,7 @@
 -- What `report` promises, its answer in numbers; what it writes is as it is.
 use lib.ListN.{length}
 use borrow.Author.Needs.{needs}
+use Rattle.spec_answers.specs.Answers.{report}
 use Rattle.serduzhap_c.proofs.Cases.{report-in}
 use Rattle.serduzhap_c.proofs.serduzhap_report.Statement.{statement}
 use Rattle.serduzhap_c.proofs.serduzhap_report.Tie as tie
@@ -24,7 +25,7 @@ returns : tie.Need-returns
 returns c =
     let f = c .before .before .before .before .before .before .before in
     let a = f .before .before .before .before .before .before .args in
-    report-in (a .text .now) (length (a .work .now)) (a .out .now) (f .report .ensures) (c .before .count .given .1)
+    report-in (report (a .text .now) (length (a .work .now)) (length (a .out .now))) (a .out .now) (f .report .ensures) (c .before .count .given .1)
 
 same-length-3 : tie.Need-same-length-3
 same-length-3 c = search needs
@@ -36,7 +37,7 @@ returns-2 : tie.Need-returns-2
 returns-2 c =
     let f = c .before .before .before .before .before .before .before in
     let a = f .before .before .before .before .before .before .args in
-    report-in (a .text .now) (length (a .work .now)) (a .out .now) (f .report .ensures) (c .before .number .given .1)
+    report-in (report (a .text .now) (length (a .work .now)) (length (a .out .now))) (a .out .now) (f .report .ensures) (c .before .number .given .1)
 
 pub serduzhap-report-spec : {M : Type 1} → statement M
 serduzhap-report-spec =
