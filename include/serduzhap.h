@@ -2,7 +2,7 @@
  *
  * Each takes any bytes and any buffers, of any length and content, ends, and either answers or refuses. The work buffer has to have
  * 16,384 numbers, or the call is refused; what it holds after a call is unspecified. A refusal leaves the output as it was. The calls keep
- * nothing between them, use no heap, and call no other code. */
+ * nothing between them, use no heap, and call no other code but memcpy and memset. */
 #ifndef SERDUZHAP_H
 #define SERDUZHAP_H
 

@@ -22,46 +22,49 @@ use Rattle.spec_text.specs.Bytes.{Bytes, Part, bytes}
 use Rattle.spec_text.specs.Tree.{Tree}
 use Rattle.spec_text.specs.Reading.{Reading, tree, refusal, reading}
 use Rattle.spec_faults.specs.Faults.{Fault, faults, fullReport, records, messageOf}
-use Rattle.spec_faults.specs.Rust.{SemanticError, Checked, analyze-with-globals}
+use Rattle.spec_faults.specs.Rust.{SemanticError, Checked, as-read, analyze-with-globals}
 use Rattle.spec_faults.proofs.ListingWalk.{walk}
-use Rattle.spec_answers.specs.Answers.{CheckAnswer, accepted, faulty, ReportAnswer, written, MessageAnswer, wrote, noFault, tooLong, check, report, message, name}
+use Rattle.spec_answers.specs.Answers.{Answer, accepted, written, faulty, refused, Outcome, refusing, check, report, message, name}
 use Rattle.spec_answers.specs.Printed.{printed}
 
-pub data Outcome : Type 0 where
-  judged : List ℕ → List ℕ → List Bytes → Checked → List ℕ → List ℕ → Outcome
-  refused : ℕ → ℕ → Outcome
+pub data Read : Type 0 where
+  judged : List ℕ → List ℕ → List Bytes → Checked → List ℕ → List ℕ → Read
+  unread : ℕ → ℕ → Read
 
 abbrev places : List Fault → List ℕ
 places [] = []
 places (f ∷ fs) = f .place ∷ f .line ∷ places fs
 
-abbrev outcomeOf : Reading → Outcome
-outcomeOf (tree t) = judged (fullReport t) (places (faults t)) (map (λ (f : Fault). messageOf f) (faults t)) (analyze-with-globals t) (records (walk t)) (places (walk t))
-outcomeOf (refusal k n) = refused k n
+abbrev readOf : Reading → Read
+readOf (tree t) = judged (fullReport t) (places (faults t)) (map (λ (f : Fault). messageOf f) (faults t)) (analyze-with-globals as-read t) (records (walk t)) (places (walk t))
+readOf (refusal k n) = unread k n
 
 -- the calls: check; report to an output of o numbers; message i to m bytes; name i; what is printed
 pub record Calls : Type 0 where
-  pub outcome : Outcome
-  pub checks : CheckAnswer
-  pub reports : ReportAnswer
-  pub says : MessageAnswer
+  pub reads : Read
+  pub checks : Answer
+  pub reports : Outcome
+  pub says : Outcome
   pub names : Part
   pub prints : Bytes
 
 abbrev calls : Bytes → ℕ → ℕ → ℕ → Calls
-calls s o i m = record { outcome = outcomeOf (reading s 16384); checks = check s 16384; reports = report s 16384 o; says = message s 16384 i m; names = name s 16384 i; prints = printed s }
+calls s o i m = record { reads = readOf (reading s 16384); checks = check s 16384; reports = report s 16384 o; says = message s 16384 i m; names = name s 16384 i; prints = printed s }
 
 abbrev rust : ℕ → ℕ → ℕ → String → Checked
 rust k s e m = some (record { kind = k; message = bytes m; start = s; end = e })
 
-abbrev expect : List ℕ → List ℕ → List Bytes → Checked → Outcome
+abbrev expect : List ℕ → List ℕ → List Bytes → Checked → Read
 expect r p m c = judged r p m c r p
 
 abbrev part : ℕ → Bytes → Part
 part o b = record { offset = o; bytes = b }
 
-abbrev answered : Outcome → CheckAnswer → ReportAnswer → MessageAnswer → Part → Bytes → Calls
-answered o c r m n p = record { outcome = o; checks = c; reports = r; says = m; names = n; prints = p }
+abbrev wrote : ℕ → List ℕ → Outcome
+wrote n ns = record { answer = written n; writes = ns }
+
+abbrev answered : Read → Answer → Outcome → Outcome → Part → Bytes → Calls
+answered o c r m n p = record { reads = o; checks = c; reports = r; says = m; names = n; prints = p }
 
 pub record Row : Type 0 where
   pub text : Bytes
@@ -138,7 +141,7 @@ def outcome(text: bytes) -> str:
     """The reading or its refusal; the full report, places and reads, messages, the Rust walk."""
     tree = read(text)
     if isinstance(tree, Refusal):
-        return '(refused %d %d)' % (tree.number, tree.carries)
+        return '(unread %d %d)' % (tree.number, tree.carries)
     found = faults(tree)
     report = answers.numbers([fault.record for fault in found])
     places = [line for fault in found for line in (fault.place, fault.read or fault.place)]
@@ -149,8 +152,12 @@ def outcome(text: bytes) -> str:
     return '(expect %s %s (%s[]) %s)' % (numbers(report), numbers(places), messages, walk)
 
 
-def refused(call: str, refusal: Refusal) -> str:
-    return '(%s.refused %d %d)' % (call, refusal.number, refusal.carries)
+def refused(number: int, *carries: int) -> str:
+    return '(refused %d %s)' % (number, numbers(list(carries)))
+
+
+def refusing(number: int, *carries: int) -> str:
+    return '(refusing %s)' % refused(number, *carries)
 
 
 def check_answer(text: bytes) -> str:
@@ -158,26 +165,26 @@ def check_answer(text: bytes) -> str:
     if answer is None:
         return 'accepted'
     if isinstance(answer, Refusal):
-        return refused('CheckAnswer', answer)
+        return refused(answer.number, answer.carries)
     return '(faulty %s)' % numbers(list(answer))
 
 
 def report_answer(text: bytes, out: int) -> str:
     answer = answers.report(text, WORK, out)
     if isinstance(answer, Refusal):
-        return refused('ReportAnswer', answer)
-    return '(written %s %d)' % (numbers(answers.numbers(answer)), len(answer))
+        return refusing(answer.number, answer.carries)
+    return '(wrote %d %s)' % (len(answer), numbers(answers.numbers(answer)))
 
 
 def message_answer(text: bytes, i: int, room: int) -> str:
     answer = answers.message(text, WORK, i, room)
     if answer is NoMessage.NO_FAULT:
-        return 'noFault'
+        return refusing(17)
     if answer is NoMessage.TOO_LONG:
-        return 'tooLong'
+        return refusing(18)
     if isinstance(answer, Refusal):
-        return refused('MessageAnswer', answer)
-    return '(wrote (bytes %s))' % string(answer)
+        return refusing(answer.number, answer.carries)
+    return '(wrote %d (bytes %s))' % (len(answer), string(answer))
 
 
 def name_answer(text: bytes, i: int) -> str:
@@ -203,7 +210,7 @@ def module(batches: list[list[bytes]]) -> str:
 
 def wrong_module(text: bytes) -> str:
     """A module that cannot hold: it expects an outcome that no text has."""
-    return HEAD + declaration(0, [row(text, '(refused 99 99)')])
+    return HEAD + declaration(0, [row(text, '(unread 99 99)')])
 
 
 def declaration(index: int, rows: list[str]) -> str:
