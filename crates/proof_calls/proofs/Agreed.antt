@@ -1,12 +1,12 @@
 -- What the theorems share: an answer says which case of the code's it is, and the answers of the definitions by cases of the text.
 use Prim.Native.Nat.{ℕ, zero, suc, _*_, _<_, _≤_}
 use native.Mathlib.Omega.{arith}
-use mathlib.Core.Path.{_≡_, refl, sym, ap, _∙_}
+use mathlib.Core.Path.{_≡_, refl, sym, ap, _∙_, subst}
 use mathlib.Core.Bool.{Bool, true, false}
 use mathlib.Core.List.{List, [], _∷_}
 use mathlib.Core.Option.{Option, none, some}
 use lib.Dec.{leb, ltb}
-use lib.ListN.{length, take, drop, getD}
+use lib.ListN.{length, take, drop}
 use lib.Seq.{take-append-seam}
 use borrow.Author.Tests.{ltb-true, ltb-false, leb-true}
 use Rattle.spec_text.specs.Bytes.{Bytes, between}
@@ -15,8 +15,12 @@ use Rattle.spec_text.specs.Reading.{Reading, tree, refusal, reading}
 use Rattle.spec_text.proofs.Lists.{and-split}
 use Rattle.spec_text.proofs.Theorems.{refusal-numbers}
 use Rattle.spec_faults.specs.Faults.{Fault, faults, recordLength, records, messageOf}
-use Rattle.spec_answers.specs.Answers.{Answer, accepted, written, faulty, refused, refusedAt, Outcome, over, refusing, reported, reportOf, nthFault, wroteIf, messageIn}
+use Rattle.spec_faults.proofs.Lists.{All, none as all-none, also}
+use Rattle.spec_answers.specs.Answers.{written, refused, refusedAt, Outcome, over, refusing, reported, reportOf, nthFault, wroteIf, messageIn}
+use Rattle.spec_answers.proofs.Theorems.{records-length}
 use Rattle.report_records.specs.declared.Record.{Record}
+use Rattle.serduzhap_c.specs.Numbers.{count, checkNumbers}
+use Rattle.serduzhap_c.specs.declared.CheckNumbers.{CheckNumbers}
 use Rattle.serduzhap.specs.Calls.{checkSays, reportSays, messageSays}
 use Rattle.serduzhap.specs.declared.CheckResult.{CheckResult}
 use Rattle.serduzhap.specs.declared.CheckResult.the-variants as C
@@ -26,27 +30,13 @@ use Rattle.serduzhap.specs.declared.MessageResult.{MessageResult}
 use Rattle.serduzhap.specs.declared.MessageResult.the-variants as M
 
 -- ---- an answer says which case it is
-abbrev recordOf : List ℕ → Record
-recordOf ns =
-    record {
-      kind = getD ns 0 0;
-      start = getD ns 1 0;
-      end = getD ns 2 0;
-      name = getD ns 3 0;
-      «name_len» = getD ns 4 0;
-      class = getD ns 5 0;
-      «class_len» = getD ns 6 0;
-    }
-
-abbrev shown : Answer → List ℕ
-shown accepted = []
-shown (written n) = []
-shown (faulty ns) = ns
-shown (refused k vs) = []
+abbrev recordOf : CheckNumbers → Record
+recordOf x =
+    record { kind = x .number; start = x .start; end = x .end; name = x .name; «name_len» = x .«name_len»; class = x .class; «class_len» = x .«class_len» }
 
 pub check-says : (c d : CheckResult) → checkSays c ≡ checkSays d → c ≡ d
 check-says C.Accepted C.Accepted e = refl
-check-says (C.Faulty r) (C.Faulty q) e = ap (λ a. C.Faulty (recordOf (shown a))) e
+check-says (C.Faulty r) (C.Faulty q) e = ap (λ a. C.Faulty (recordOf (checkNumbers a))) e
 check-says (C.Refused j m) (C.Refused k n) e =
     let a : j ≡ k = cc in
     let b : m ≡ n = cc in
@@ -134,6 +124,23 @@ message-by i out (tree t) = go (nthFault (faults t) i) refl
     go : (o : Option Fault) → nthFault (faults t) i ≡ o → Message i out (tree t) (messageIn i out (tree t))
     go none e = rw e (no-fault (nth-none (faults t) i e))
     go (some f) e = rw e (fits f e (ltb out (length (messageOf f))) refl)
+
+pub all-nth : {P : Fault → Type 0} {fs : List Fault} → All P fs → (i : ℕ) {f : Fault} → nthFault fs i ≡ some f → P f
+all-nth all-none i e = let z : _≡_ {A = ℕ} 0 1 = cc in absurd (omega arith)
+all-nth {P} (also {a} h r) zero {f} e = let z : a ≡ f = cc in subst P z h
+all-nth (also h r) (suc i) e = all-nth r i e
+
+-- ---- what is written is as long as the answer says
+pub report-counts : {out : ℕ} {x : Reading} {o : Outcome} → Report out x o → length (o .writes) ≡ recordLength * count (o .answer)
+report-counts report-refused = refl
+report-counts (too-short h) = refl
+report-counts (report-written {t} h) = records-length (faults t)
+
+pub message-counts : {i out : ℕ} {x : Reading} {o : Outcome} → Message i out x o → length (o .writes) ≡ count (o .answer)
+message-counts message-refused = refl
+message-counts (no-fault h) = refl
+message-counts (too-long d h) = refl
+message-counts (message-written d h) = refl
 
 -- ---- outputs that an outcome was written over begin alike
 begins : (ns old : List ℕ) {n : ℕ} → length ns ≡ n → take n (over ns old) ≡ ns

@@ -1,10 +1,9 @@
 -- The demands, as theorems about the public calls: demand 1 for each call, demands 2 and 3.
-use Prim.Native.Nat.{ℕ, _*_, _<_, _≤_}
+use Prim.Native.Nat.{ℕ, _*_, _≤_}
 use native.Mathlib.Omega.{arith}
 use mathlib.Core.Path.{_≡_, refl, sym, ap, ap₂, _∙_, subst}
 use mathlib.Core.Logic.{_⊎_, inl, inr}
 use mathlib.Core.List.{List, [], _∷_}
-use mathlib.Core.Option.{some}
 use lib.ListN.{length, take, drop}
 use lib.Seq.{take-append-seam, drop-append-seam}
 use borrow.Author.Tests.{lt-ltb, le-ltb}
@@ -12,10 +11,11 @@ use Rattle.spec_text.specs.Bytes.{Bytes}
 use Rattle.spec_text.specs.Tree.{Tree}
 use Rattle.spec_text.specs.Reading.{Reading, tree, refusal, reading}
 use Rattle.spec_text.proofs.Theorems.{first-refusal, second-refusal}
-use Rattle.spec_faults.specs.Faults.{Fault, faults, recordLength, records, fullReport, messageOf}
+use Rattle.spec_faults.specs.Faults.{faults, recordLength, records, fullReport, messageOf}
 use Rattle.spec_faults.specs.Rust.{analyze-with-globals}
+use Rattle.spec_faults.proofs.FaultKinds.{kinds}
 use Rattle.spec_faults.proofs.Theorems.{each-fault-once, in-order, rust-any-order}
-use Rattle.spec_answers.specs.Answers.{written, faulty, refused, refusedAt, firstRecord, checkOf, Outcome, over, reported, reportOf, report, nthFault, wroteIf, messageOr, messageIn, message, nameOf, nameIn}
+use Rattle.spec_answers.specs.Answers.{written, faulty, refused, refusedAt, firstRecord, checkOf, Outcome, over, reported, reportOf, report, wroteIf, messageOr, messageIn, message, nameOf, nameIn}
 use Rattle.spec_answers.specs.RustAnswers.{SpanOf}
 use Rattle.spec_answers.proofs.Theorems.{records-length, rust-check, rust-message}
 use Rattle.serduzhap.specs.Calls.{checkSays, Checks, Gives, reportSays, Reports, messageSays, Messages, partSays, Names}
@@ -26,8 +26,9 @@ use Rattle.serduzhap.specs.declared.ReportResult.the-variants as R
 use Rattle.serduzhap.specs.declared.MessageResult.{MessageResult}
 use Rattle.serduzhap.specs.declared.MessageResult.the-variants as M
 use Rattle.serduzhap.specs.declared.NamePart.{NamePart}
-use Rattle.proof_calls.specs.Demands.{Refusals, CheckRefuses, ReportRefuses, MessageRefuses, NameIsEmpty, SameReport, SameMessage, Demand2, Demand3}
-use Rattle.proof_calls.proofs.Agreed.{check-says, report-says, message-says, whole, Report, report-refused, too-short, report-written, report-by, Message, message-refused, no-fault, too-long, message-written, message-by, none-nth, alike, refusal-range}
+use Rattle.serduzhap_c.specs.Numbers.{count}
+use Rattle.proof_calls.specs.Demands.{Refusals, TooMany, AllFit, NoFault, TooLong, Fits, CheckRefuses, ReportRefuses, MessageRefuses, NameIsEmpty, SameReport, SameMessage, Demand2, Demand3}
+use Rattle.proof_calls.proofs.Agreed.{check-says, report-says, message-says, whole, Report, report-refused, too-short, report-written, report-by, Message, message-refused, no-fault, too-long, message-written, message-by, none-nth, all-nth, report-counts, message-counts, alike, refusal-range}
 use Rattle.proof_calls.proofs.Passed.{passed, first-none}
 
 -- ==== Demand 1
@@ -40,10 +41,7 @@ check-refuses text work c h = record { refusals = refusals text work; refused = 
 -- ---- report: a refusal and its condition, by cases of the text and of the output's length
 module _ (out : ℕ) where
   abbrev Short : Reading → ℕ → ℕ → Type 0
-  Short x k n = (x ≡ refusal k n) ⊎ ((k ≡ 16) × ((t : Tree) × (x ≡ tree t) × (out < recordLength * length (faults t)) × (n ≡ length (faults t))))
-
-  abbrev Holds : Reading → ℕ → Type 0
-  Holds x n = (t : Tree) × (x ≡ tree t) × (recordLength * length (faults t) ≤ out) × (n ≡ length (faults t))
+  Short x k n = (x ≡ refusal k n) ⊎ ((k ≡ 16) × TooMany x out n)
 
   short-from : {x : Reading} {o : Outcome} → Report out x o → {k n : ℕ} → refusedAt k n ≡ o .answer → Short x k n
   short-from report-refused e = inl cc
@@ -57,27 +55,22 @@ module _ (out : ℕ) where
       let r : reported out fs .answer ≡ refused 16 (length fs ∷ []) = rw (lt-ltb out (recordLength * length fs) (p .1 .2), reported) in
       ap (λ y. reportOf out y .answer) (p .1 .1) ∙ r ∙ ap₂ refusedAt (sym (p .0)) (sym (p .1 .3))
 
-  holds-from : {x : Reading} {o : Outcome} → Report out x o → {n : ℕ} → written n ≡ o .answer → Holds x n
+  holds-from : {x : Reading} {o : Outcome} → Report out x o → {n : ℕ} → written n ≡ o .answer → AllFit x out n
   holds-from report-refused e = let z : _≡_ {A = ℕ} 0 1 = cc in absurd (omega arith)
   holds-from (too-short h) e = let z : _≡_ {A = ℕ} 0 1 = cc in absurd (omega arith)
   holds-from (report-written {t} h) e = (t, refl, h, cc)
 
-  from-holds : (x : Reading) {n : ℕ} → Holds x n → reportOf out x .answer ≡ written n
+  from-holds : (x : Reading) {n : ℕ} → AllFit x out n → reportOf out x .answer ≡ written n
   from-holds x p =
       let fs = faults (p .0) in
       let r : reported out fs .answer ≡ written (length fs) = rw (le-ltb out (recordLength * length fs) (p .2), reported) in
       ap (λ y. reportOf out y .answer) (p .1) ∙ r ∙ ap written (sym (p .3))
 
-  -- what is written: nothing by a refusal, else seven numbers for each
+  -- a refusal writes nothing
   report-quiet : {x : Reading} {o : Outcome} → Report out x o → {k n : ℕ} → refusedAt k n ≡ o .answer → o .writes ≡ []
   report-quiet report-refused e = refl
   report-quiet (too-short h) e = refl
   report-quiet (report-written h) e = let z : _≡_ {A = ℕ} 0 1 = cc in absurd (omega arith)
-
-  pub report-length : {x : Reading} {o : Outcome} → Report out x o → {n : ℕ} → written n ≡ o .answer → length (o .writes) ≡ recordLength * n
-  report-length report-refused e = let z : _≡_ {A = ℕ} 0 1 = cc in absurd (omega arith)
-  report-length (too-short h) e = let z : _≡_ {A = ℕ} 0 1 = cc in absurd (omega arith)
-  report-length (report-written {t} h) {n} e = let a : length (faults t) ≡ n = cc in records-length (faults t) ∙ ap (λ n. recordLength * n) a
 
 pub report-refuses : (text : Bytes) (work : ℕ) (old new : List ℕ) (r : ReportResult) → Reports text work old new r → ReportRefuses text work old new r
 report-refuses text work old new r h =
@@ -93,65 +86,50 @@ report-refuses text work old new r h =
 
 -- ---- message: the same
 module _ (i out : ℕ) where
-  abbrev Without : Reading → Type 0
-  Without x = (t : Tree) × (x ≡ tree t) × (length (faults t) ≤ i)
-
-  abbrev Longer : Reading → Type 0
-  Longer x = (t : Tree) × (f : Fault) × (x ≡ tree t) × (nthFault (faults t) i ≡ some f) × (out < length (messageOf f))
-
-  abbrev Fits : Reading → ℕ → Type 0
-  Fits x n = (t : Tree) × (f : Fault) × (x ≡ tree t) × (nthFault (faults t) i ≡ some f) × (length (messageOf f) ≤ out) × (n ≡ length (messageOf f))
-
   refused-from : {x : Reading} {o : Outcome} → Message i out x o → {k n : ℕ} → refusedAt k n ≡ o .answer → x ≡ refusal k n
   refused-from message-refused e = cc
   refused-from (no-fault h) e = let z : _≡_ {A = ℕ} 0 1 = cc in absurd (omega arith)
   refused-from (too-long d h) e = let z : _≡_ {A = ℕ} 0 1 = cc in absurd (omega arith)
   refused-from (message-written d h) e = let z : _≡_ {A = ℕ} 0 1 = cc in absurd (omega arith)
 
-  without-from : {x : Reading} {o : Outcome} → Message i out x o → refused 17 [] ≡ o .answer → Without x
+  without-from : {x : Reading} {o : Outcome} → Message i out x o → refused 17 [] ≡ o .answer → NoFault x i
   without-from message-refused e = let z : _≡_ {A = ℕ} 0 1 = cc in absurd (omega arith)
   without-from (no-fault {t} h) e = (t, refl, h)
   without-from (too-long d h) e = let z : _≡_ {A = ℕ} 17 18 = cc in absurd (omega arith)
   without-from (message-written d h) e = let z : _≡_ {A = ℕ} 0 1 = cc in absurd (omega arith)
 
-  longer-from : {x : Reading} {o : Outcome} → Message i out x o → refused 18 [] ≡ o .answer → Longer x
+  longer-from : {x : Reading} {o : Outcome} → Message i out x o → refused 18 [] ≡ o .answer → TooLong x i out
   longer-from message-refused e = let z : _≡_ {A = ℕ} 0 1 = cc in absurd (omega arith)
   longer-from (no-fault h) e = let z : _≡_ {A = ℕ} 18 17 = cc in absurd (omega arith)
   longer-from (too-long {t} {f} d h) e = (t, f, refl, d, h)
   longer-from (message-written d h) e = let z : _≡_ {A = ℕ} 0 1 = cc in absurd (omega arith)
 
-  fits-from : {x : Reading} {o : Outcome} → Message i out x o → {n : ℕ} → written n ≡ o .answer → Fits x n
+  fits-from : {x : Reading} {o : Outcome} → Message i out x o → {n : ℕ} → written n ≡ o .answer → Fits x i out n
   fits-from message-refused e = let z : _≡_ {A = ℕ} 0 1 = cc in absurd (omega arith)
   fits-from (no-fault h) e = let z : _≡_ {A = ℕ} 0 1 = cc in absurd (omega arith)
   fits-from (too-long d h) e = let z : _≡_ {A = ℕ} 0 1 = cc in absurd (omega arith)
   fits-from (message-written {t} {f} d h) e = (t, f, refl, d, h, cc)
 
-  -- a refusal writes nothing, a message its bytes
+  -- a refusal writes nothing
   message-quiet : {x : Reading} {o : Outcome} → Message i out x o → ((n : ℕ) → written n ≡ o .answer → ⊥) → o .writes ≡ []
   message-quiet message-refused e = refl
   message-quiet (no-fault h) e = refl
   message-quiet (too-long d h) e = refl
   message-quiet (message-written {f = f} d h) e = absurd (e (length (messageOf f)) refl)
 
-  pub message-length : {x : Reading} {o : Outcome} → Message i out x o → {n : ℕ} → written n ≡ o .answer → length (o .writes) ≡ n
-  message-length message-refused e = let z : _≡_ {A = ℕ} 0 1 = cc in absurd (omega arith)
-  message-length (no-fault h) e = let z : _≡_ {A = ℕ} 0 1 = cc in absurd (omega arith)
-  message-length (too-long d h) e = let z : _≡_ {A = ℕ} 0 1 = cc in absurd (omega arith)
-  message-length (message-written d h) e = cc
-
   from-refused : (x : Reading) {k n : ℕ} → x ≡ refusal k n → messageIn i out x .answer ≡ refusedAt k n
   from-refused x e = ap (λ y. messageIn i out y .answer) e
 
-  from-without : (x : Reading) → Without x → messageIn i out x .answer ≡ refused 17 []
+  from-without : (x : Reading) → NoFault x i → messageIn i out x .answer ≡ refused 17 []
   from-without x p = ap (λ y. messageIn i out y .answer) (p .1) ∙ ap (λ o. messageOr out o .answer) (none-nth (faults (p .0)) i (p .2))
 
-  from-longer : (x : Reading) → Longer x → messageIn i out x .answer ≡ refused 18 []
+  from-longer : (x : Reading) → TooLong x i out → messageIn i out x .answer ≡ refused 18 []
   from-longer x p =
       let m = messageOf (p .1) in
       let r : wroteIf out m .answer ≡ refused 18 [] = rw (lt-ltb out (length m) (p .4), wroteIf) in
       ap (λ y. messageIn i out y .answer) (p .2) ∙ ap (λ o. messageOr out o .answer) (p .3) ∙ r
 
-  from-fits : (x : Reading) {n : ℕ} → Fits x n → messageIn i out x .answer ≡ written n
+  from-fits : (x : Reading) {n : ℕ} → Fits x i out n → messageIn i out x .answer ≡ written n
   from-fits x p =
       let m = messageOf (p .1) in
       let r : wroteIf out m .answer ≡ written (length m) = rw (le-ltb out (length m) (p .4), wroteIf) in
@@ -175,8 +153,9 @@ message-refuses text work i old new r h =
 pub name-is-empty : (text : Bytes) (work i : ℕ) (r : NamePart) → Names text work i r → NameIsEmpty text work i r
 name-is-empty text work i r h =
     record {
+      kind-14 = λ t f e d k. h .0 ∙ ap (λ x. partSays (nameIn i x)) e ∙ ap (λ o. partSays (nameOf o)) d ∙ ap partSays (all-nth (kinds t) i d .nameless k);
       refused = λ k n e. h .0 ∙ ap (λ x. partSays (nameIn i x)) e;
-      no-fault = λ t e l. h .0 ∙ ap (λ x. partSays (nameIn i x)) e ∙ ap (λ o. partSays (nameOf o)) (none-nth (faults t) i l);
+      no-fault = λ p. h .0 ∙ ap (λ x. partSays (nameIn i x)) (p .1) ∙ ap (λ o. partSays (nameOf o)) (none-nth (faults (p .0)) i (p .2));
     }
 
 -- ---- two calls on one text, with buffers of the same lengths
@@ -191,7 +170,7 @@ one-report text work old old′ new new′ r r′ e a b =
     record {
       answer = report-says r r′ (a .0 ∙ sym (c .0));
       writes = λ n d.
-          let l = report-length (length old) (report-by (length old) (reading text work)) (sym (ap reportSays d) ∙ a .0) in
+          let l = report-counts (report-by (length old) (reading text work)) ∙ ap (λ x. recordLength * count x) (sym (a .0) ∙ ap reportSays d) in
           alike o old old′ l (a .1) (c .1);
     }
 
@@ -203,7 +182,7 @@ one-message text work i old old′ new new′ r r′ e a b =
     record {
       answer = message-says r r′ (a .0 ∙ sym (c .0));
       writes = λ n d.
-          let l = message-length i (length old) (message-by i (length old) (reading text work)) (sym (ap messageSays d) ∙ a .0) in
+          let l = message-counts (message-by i (length old) (reading text work)) ∙ ap count (sym (a .0) ∙ ap messageSays d) in
           alike o old old′ l (a .1) (c .1);
     }
 

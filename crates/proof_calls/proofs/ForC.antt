@@ -10,28 +10,27 @@ use Rattle.spec_faults.specs.Faults.{Fault, faults, recordLength}
 use Rattle.spec_faults.proofs.Lists.{All, also}
 use Rattle.spec_faults.proofs.FaultKinds.{FromEight, kinds}
 use Rattle.spec_answers.specs.Answers.{accepted, firstRecord, checkOf, check, Outcome, over, report, message, name}
-use Rattle.spec_answers.proofs.Theorems.{records-length}
 use Rattle.serduzhap_c.specs.Numbers.{number, line, count, checkNumbers, reportNumbers, messageNumbers, nameNumbers}
 use Rattle.serduzhap_c.specs.declared.CheckNumbers.{CheckNumbers}
 use Rattle.serduzhap_c.specs.declared.ReportNumbers.{ReportNumbers}
 use Rattle.serduzhap_c.specs.declared.MessageNumbers.{MessageNumbers}
 use Rattle.serduzhap_c.specs.declared.NameNumbers.{NameNumbers}
 use Rattle.proof_calls.specs.ForC.{PassedC, SameReportC, SameMessageC}
-use Rattle.proof_calls.proofs.Agreed.{Report, report-refused, too-short, report-written, report-by, Message, message-refused, no-fault, too-long, message-written, message-by, alike, refusal-range}
+use Rattle.proof_calls.proofs.Agreed.{report-by, message-by, report-counts, message-counts, alike, refusal-range}
 use Rattle.proof_calls.proofs.Passed.{passes-if}
 
 -- ---- the number of an answer: 0 is `accepted`, 1 to 7 a refusal, 8 to 15 a fault
 first-zero : (fs : List Fault) → All FromEight fs → number (firstRecord fs) ≡ 0 → accepted ≡ firstRecord fs
 first-zero [] h e = refl
-first-zero (f ∷ fs) (also h r) e = absurd (omega (arith, h .0, e))
+first-zero (f ∷ fs) (also h r) e = absurd (omega (arith, h .least, e))
 
 first-other : (fs : List Fault) → All FromEight fs → 1 ≤ number (firstRecord fs) → number (firstRecord fs) ≤ 7 → ⊥
 first-other [] h l m = omega arith
-first-other (f ∷ fs) (also h r) l m = omega (arith, h .0, m)
+first-other (f ∷ fs) (also h r) l m = omega (arith, h .least, m)
 
 first-most : (fs : List Fault) → All FromEight fs → number (firstRecord fs) ≤ 15
 first-most [] h = omega arith
-first-most (f ∷ fs) (also h r) = h .1
+first-most (f ∷ fs) (also h r) = h .most
 
 module _ (text : Bytes) (work : ℕ) where
   zero-accepted : (x : Reading) → reading text work ≡ x → number (checkOf x) ≡ 0 → accepted ≡ checkOf x
@@ -67,18 +66,6 @@ one-check-c text work r r′ a b = a ∙ sym b
 
 pub one-name-c : (text : Bytes) (work i : ℕ) (r r′ : NameNumbers) → r ≡ nameNumbers (name text work i) → r′ ≡ nameNumbers (name text work i) → r ≡ r′
 one-name-c text work i r r′ a b = a ∙ sym b
-
--- what is written is as long as the answer says
-report-counts : {out : ℕ} {x : Reading} {o : Outcome} → Report out x o → length (o .writes) ≡ recordLength * count (o .answer)
-report-counts report-refused = refl
-report-counts (too-short h) = refl
-report-counts (report-written {t} h) = records-length (faults t)
-
-message-counts : {i out : ℕ} {x : Reading} {o : Outcome} → Message i out x o → length (o .writes) ≡ count (o .answer)
-message-counts message-refused = refl
-message-counts (no-fault h) = refl
-message-counts (too-long d h) = refl
-message-counts (message-written d h) = refl
 
 pub one-report-c : (text : Bytes) (work : ℕ) (old old′ new new′ : List ℕ) (r r′ : ReportNumbers) → length old ≡ length old′
     → (r ≡ reportNumbers (report text work (length old) .answer)) × (new ≡ over (report text work (length old) .writes) old)

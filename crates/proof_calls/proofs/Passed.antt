@@ -29,7 +29,7 @@ first-refused (f ∷ fs) e = let z : _≡_ {A = ℕ} 0 1 = cc in omega arith
 
 first-kind : (fs : List Fault) → All FromEight fs → {k : ℕ} {ns : List ℕ} → faulty (k ∷ ns) ≡ firstRecord fs → (8 ≤ k) × (k ≤ 15)
 first-kind [] h e = let z : _≡_ {A = ℕ} 0 1 = cc in absurd (omega arith)
-first-kind (f ∷ fs) (also h r) {k} e = let z : k ≡ f .kind = cc in (omega (arith, h .0), omega (arith, h .1))
+first-kind (f ∷ fs) (also h r) {k} e = let z : k ≡ f .kind = cc in (omega (arith, h .least), omega (arith, h .most))
 
 -- ---- by cases of the text: an answer is a tree's or a refusal's
 pub accepted-of : (x : Reading) → accepted ≡ checkOf x → (t : Tree) × (x ≡ tree t) × (faults t ≡ [])

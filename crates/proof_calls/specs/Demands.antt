@@ -10,7 +10,7 @@ use mathlib.Core.Option.{some}
 use lib.ListN.{length, take, drop}
 use Rattle.spec_text.specs.Bytes.{Bytes}
 use Rattle.spec_text.specs.Tree.{Tree}
-use Rattle.spec_text.specs.Reading.{longestText, shortestWork, tree, refusal, reading}
+use Rattle.spec_text.specs.Reading.{longestText, shortestWork, Reading, tree, refusal, reading}
 use Rattle.spec_faults.specs.Faults.{Fault, is, keep, faults, isFault, ordered, recordLength, fullReport, messageOf}
 use Rattle.spec_faults.specs.Rust.{Order, Rearranges, as-read, analyze-with-globals, Answers}
 use Rattle.spec_answers.specs.Answers.{faulty, nthFault}
@@ -39,28 +39,44 @@ pub record CheckRefuses (text : Bytes) (work : ℕ) (c : CheckResult) : Type 0 w
   pub refusals : Refusals text work
   pub refused : (k n : ℕ) → (c ≡ C.Refused k n) ↔ (reading text work ≡ refusal k n)
 
--- report writes, or gives one of 1 to 7, or 16, "output shorter than 7 × faults"
+-- report writes, or gives one of 1 to 7, or 16, "output shorter than 7 × faults": of a reading, to an output of this length, so many faults
+abbrev pub TooMany : Reading → ℕ → ℕ → Type 0
+TooMany x out n = (t : Tree) × (x ≡ tree t) × (out < recordLength * length (faults t)) × (n ≡ length (faults t))
+
+abbrev pub AllFit : Reading → ℕ → ℕ → Type 0
+AllFit x out n = (t : Tree) × (x ≡ tree t) × (recordLength * length (faults t) ≤ out) × (n ≡ length (faults t))
+
 pub record ReportRefuses (text : Bytes) (work : ℕ) (old new : List ℕ) (r : ReportResult) : Type 0 where
   pub refusals : Refusals text work
-  pub refused : (k n : ℕ) → (r ≡ R.Refused k n)
-      ↔ ((reading text work ≡ refusal k n) ⊎ ((k ≡ 16) × ((t : Tree) × (reading text work ≡ tree t) × (length old < recordLength * length (faults t)) × (n ≡ length (faults t)))))
-  pub written : (n : ℕ) → (r ≡ R.Written n) ↔ ((t : Tree) × (reading text work ≡ tree t) × (recordLength * length (faults t) ≤ length old) × (n ≡ length (faults t)))
+  pub refused : (k n : ℕ) → (r ≡ R.Refused k n) ↔ ((reading text work ≡ refusal k n) ⊎ ((k ≡ 16) × TooMany (reading text work) (length old) n))
+  pub written : (n : ℕ) → (r ≡ R.Written n) ↔ AllFit (reading text work) (length old) n
   pub unchanged : (k n : ℕ) → r ≡ R.Refused k n → new ≡ old
 
--- message writes, or gives one of 1 to 7, or 17, "no fault i", or 18, "message longer than the output"
+-- message writes, or gives one of 1 to 7, or 17, "no fault i", or 18, "message longer than the output": of a reading and i, to an output of this
+-- length, so many bytes
+abbrev pub NoFault : Reading → ℕ → Type 0
+NoFault x i = (t : Tree) × (x ≡ tree t) × (length (faults t) ≤ i)
+
+abbrev pub TooLong : Reading → ℕ → ℕ → Type 0
+TooLong x i out = (t : Tree) × (f : Fault) × (x ≡ tree t) × (nthFault (faults t) i ≡ some f) × (out < length (messageOf f))
+
+abbrev pub Fits : Reading → ℕ → ℕ → ℕ → Type 0
+Fits x i out n =
+    (t : Tree) × (f : Fault) × (x ≡ tree t) × (nthFault (faults t) i ≡ some f) × (length (messageOf f) ≤ out) × (n ≡ length (messageOf f))
+
 pub record MessageRefuses (text : Bytes) (work i : ℕ) (old new : Bytes) (r : MessageResult) : Type 0 where
   pub refusals : Refusals text work
   pub refused : (k n : ℕ) → (r ≡ M.Refused k n) ↔ (reading text work ≡ refusal k n)
-  pub no-fault : (r ≡ M.NoFault) ↔ ((t : Tree) × (reading text work ≡ tree t) × (length (faults t) ≤ i))
-  pub too-long : (r ≡ M.TooLong) ↔ ((t : Tree) × (f : Fault) × (reading text work ≡ tree t) × (nthFault (faults t) i ≡ some f) × (length old < length (messageOf f)))
-  pub written : (n : ℕ) → (r ≡ M.Written n)
-      ↔ ((t : Tree) × (f : Fault) × (reading text work ≡ tree t) × (nthFault (faults t) i ≡ some f) × (length (messageOf f) ≤ length old) × (n ≡ length (messageOf f)))
+  pub no-fault : (r ≡ M.NoFault) ↔ NoFault (reading text work) i
+  pub too-long : (r ≡ M.TooLong) ↔ TooLong (reading text work) i (length old)
+  pub written : (n : ℕ) → (r ≡ M.Written n) ↔ Fits (reading text work) i (length old) n
   pub unchanged : ((n : ℕ) → r ≡ M.Written n → ⊥) → new ≡ old
 
--- name has no refusal: "The part is empty, at offset 0, [..] for any of refusals 1 to 7 and where no fault i exists."
+-- name has no refusal: "The part is empty, at offset 0, for kind 14, for any of refusals 1 to 7 and where no fault i exists."
 pub record NameIsEmpty (text : Bytes) (work i : ℕ) (r : NamePart) : Type 0 where
+  pub kind-14 : (t : Tree) (f : Fault) → reading text work ≡ tree t → nthFault (faults t) i ≡ some f → f .kind ≡ 14 → r ≡ record { offset = 0; len = 0 }
   pub refused : (k n : ℕ) → reading text work ≡ refusal k n → r ≡ record { offset = 0; len = 0 }
-  pub no-fault : (t : Tree) → reading text work ≡ tree t → length (faults t) ≤ i → r ≡ record { offset = 0; len = 0 }
+  pub no-fault : NoFault (reading text work) i → r ≡ record { offset = 0; len = 0 }
 
 -- "No answer depends on what the work buffer held before.": two calls on one text, with buffers of the same lengths, answer alike, and their
 -- outputs agree in what the answer writes
