@@ -1,10 +1,11 @@
 #!/usr/bin/env python3
-"""Makes calls of check, report, message and name, and what they have to answer, worked out by the
-independent reading of document 01 (document01/).
+"""Makes calls of check, report, message, name and version as C has them, and what they have to answer,
+worked out by the independent reading of document 01 (document01/) and the numbers of the header.
 
 They are two files: frames that the program `test_calls` takes on its standard input, and the
-bytes that it has to write.  Every call finds its buffers filled, most of them with ones; a sum
-over the whole output buffer shows what was written and that the rest is unchanged.
+bytes that it has to write.  Every call finds its buffers filled, most of them with ones; all numbers
+of the answer are shown, and a sum over the whole output buffer shows what was written and that the
+rest is unchanged.
 """
 
 import random
@@ -18,9 +19,19 @@ from document01.reader import Refusal
 from document01.scripts import SCRIPTS
 from document01.tree import render
 from frames import Frames, Made, command, summed
+from header import constants
 
 ONES = 4294967295
 WORK = 16384
+C = constants()
+
+
+def numbered(call: str, number: int, *values: int) -> bytes:
+    """A call's name and its answer: the number, what goes with it, and 0 up to the length of the answer."""
+    length = C[call.upper() + '_ANSWER']
+    numbers = [number, *values] + [0] * (length - 1 - len(values))
+    assert len(numbers) == length
+    return ('\t'.join([call, *map(str, numbers)]) + '\t').encode('ascii')
 
 
 class Calls(Frames):
@@ -31,12 +42,12 @@ class Calls(Frames):
         self.frame(b'c', work, value)
         answer = answers.check(self.text, work)
         if answer is None:
-            said = 'accepted'
+            said = numbered('check', C['ACCEPTED'])
         elif isinstance(answer, Refusal):
-            said = 'refused\t%d\t%d\t' % (answer.number, answer.carries)
+            said = numbered('check', answer.number, answer.carries)
         else:
-            said = '\t'.join(map(str, answer))
-        self.answers.append(('check\t%s\n' % said).encode('ascii'))
+            said = numbered('check', *answer)
+        self.answers.append(said + b'\n')
 
     def report(self, work: int, room: int, value: int = ONES) -> None:
         """To an output of so many numbers, each of this value: ones or zeros."""
@@ -44,12 +55,12 @@ class Calls(Frames):
         answer = answers.report(self.text, work, room)
         out = [value] * room
         if isinstance(answer, Refusal):
-            said = 'refused\t%d\t%d' % (answer.number, answer.carries)
+            said = numbered('report', answer.number, answer.carries)
         else:
             numbers = answers.numbers(answer)
             out[:len(numbers)] = numbers
-            said = 'written\t%d' % len(answer)
-        self.answers.append(('report\t%s\t%d\n' % (said, summed(out))).encode('ascii'))
+            said = numbered('report', C['WRITTEN'], len(answer))
+        self.answers.append(b'%s%d\n' % (said, summed(out)))
 
     def message(self, i: int, room: int) -> None:
         """To an output of so many bytes, all ones."""
@@ -57,18 +68,23 @@ class Calls(Frames):
         answer = answers.message(self.text, WORK, i, room)
         out = bytearray(b'\xff' * room)
         if isinstance(answer, Refusal):
-            said = b'refused\t%d\t%d' % (answer.number, answer.carries)
+            said = numbered('message', answer.number, answer.carries)
         elif isinstance(answer, NoMessage):
-            said = b'%d' % answer.value
+            said = numbered('message', answer.value)
         else:
             out[:len(answer)] = answer
-            said = b'written\t%d\t%s' % (len(answer), answer)
-        self.answers.append(b'message\t%s\t%d\n' % (said, summed(out)))
+            said = numbered('message', C['WRITTEN'], len(answer)) + answer
+        self.answers.append(b'%s\t%d\n' % (said, summed(out)))
 
     def name(self, i: int) -> None:
         self.frame(b'n', i, 0)
         part = answers.name(self.text, WORK, i)
-        self.answers.append(b'name\t%d\t%s\n' % (part.length, part.of(self.text)))
+        said = numbered('name', C['PART'], part.offset, part.length)
+        self.answers.append(b'%s%s\n' % (said, part.of(self.text)))
+
+    def version(self) -> None:
+        self.frame(b'v', 0, 0)
+        self.answers.append(numbered('version', C['VERSION_MAJOR'], C['VERSION_MINOR'], C['VERSION_PATCH']) + b'\n')
 
     def all_calls(self, most: int = 40) -> None:
         """Each call on the text; buffers empty, one short and exactly full."""
@@ -153,6 +169,7 @@ def random_trees(calls: Calls) -> None:
 
 def made() -> Made:
     calls = Calls()
+    calls.version()
     document01_scripts(calls)
     longest_texts(calls)
     many_faults(calls)

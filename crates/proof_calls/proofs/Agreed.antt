@@ -6,7 +6,7 @@ use mathlib.Core.Bool.{Bool, true, false}
 use mathlib.Core.List.{List, [], _∷_}
 use mathlib.Core.Option.{Option, none, some}
 use lib.Dec.{leb, ltb}
-use lib.ListN.{length, take, drop}
+use lib.ListN.{length, getD, take, drop}
 use lib.Seq.{take-append-seam}
 use borrow.Author.Tests.{ltb-true, ltb-false, leb-true}
 use Rattle.spec_text.specs.Bytes.{Bytes, between}
@@ -16,11 +16,9 @@ use Rattle.spec_text.proofs.Lists.{and-split}
 use Rattle.spec_text.proofs.Theorems.{refusal-numbers}
 use Rattle.spec_faults.specs.Faults.{Fault, faults, recordLength, records, messageOf}
 use Rattle.spec_faults.proofs.Lists.{All, none as all-none, also}
-use Rattle.spec_answers.specs.Answers.{written, refused, refusedAt, Outcome, over, refusing, reported, reportOf, nthFault, wroteIf, messageIn}
+use Rattle.spec_answers.specs.Answers.{Answer, accepted, written, faulty, refused, refusedAt, Outcome, over, refusing, reported, reportOf, nthFault, wroteIf, messageIn}
 use Rattle.spec_answers.proofs.Theorems.{records-length}
 use Rattle.report_records.specs.declared.Record.{Record}
-use Rattle.serduzhap_c.specs.Numbers.{count, checkNumbers}
-use Rattle.serduzhap_c.specs.declared.CheckNumbers.{CheckNumbers}
 use Rattle.serduzhap.specs.Calls.{checkSays, reportSays, messageSays}
 use Rattle.serduzhap.specs.declared.CheckResult.{CheckResult}
 use Rattle.serduzhap.specs.declared.CheckResult.the-variants as C
@@ -28,15 +26,25 @@ use Rattle.serduzhap.specs.declared.ReportResult.{ReportResult}
 use Rattle.serduzhap.specs.declared.ReportResult.the-variants as R
 use Rattle.serduzhap.specs.declared.MessageResult.{MessageResult}
 use Rattle.serduzhap.specs.declared.MessageResult.the-variants as M
+use Rattle.serduzhap_c.specs.Numbers.{numbers}
 
 -- ---- an answer says which case it is
-abbrev recordOf : CheckNumbers → Record
-recordOf x =
-    record { kind = x .number; start = x .start; end = x .end; name = x .name; «name_len» = x .«name_len»; class = x .class; «class_len» = x .«class_len» }
+-- the record of a fault
+abbrev recordOf : Answer → Record
+recordOf a =
+    let ns = numbers a in
+    record { kind = getD ns 0 0; start = getD ns 1 0; end = getD ns 2 0; name = getD ns 3 0; «name_len» = getD ns 4 0; class = getD ns 5 0; «class_len» = getD ns 6 0 }
+
+-- so many records or bytes were written
+abbrev pub count : Answer → ℕ
+count accepted = 0
+count (written k) = k
+count (faulty ns) = 0
+count (refused k vs) = 0
 
 pub check-says : (c d : CheckResult) → checkSays c ≡ checkSays d → c ≡ d
 check-says C.Accepted C.Accepted e = refl
-check-says (C.Faulty r) (C.Faulty q) e = ap (λ a. C.Faulty (recordOf (checkNumbers a))) e
+check-says (C.Faulty r) (C.Faulty q) e = ap (λ a. C.Faulty (recordOf a)) e
 check-says (C.Refused j m) (C.Refused k n) e =
     let a : j ≡ k = cc in
     let b : m ≡ n = cc in

@@ -26,9 +26,8 @@ use Rattle.serduzhap.specs.declared.ReportResult.the-variants as R
 use Rattle.serduzhap.specs.declared.MessageResult.{MessageResult}
 use Rattle.serduzhap.specs.declared.MessageResult.the-variants as M
 use Rattle.serduzhap.specs.declared.NamePart.{NamePart}
-use Rattle.serduzhap_c.specs.Numbers.{count}
 use Rattle.proof_calls.specs.Demands.{Refusals, TooMany, AllFit, NoFault, TooLong, Fits, CheckRefuses, ReportRefuses, MessageRefuses, NameIsEmpty, SameReport, SameMessage, Demand2, Demand3}
-use Rattle.proof_calls.proofs.Agreed.{check-says, report-says, message-says, whole, Report, report-refused, too-short, report-written, report-by, Message, message-refused, no-fault, too-long, message-written, message-by, none-nth, all-nth, report-counts, message-counts, alike, refusal-range}
+use Rattle.proof_calls.proofs.Agreed.{count, check-says, report-says, message-says, whole, Report, report-refused, too-short, report-written, report-by, Message, message-refused, no-fault, too-long, message-written, message-by, none-nth, all-nth, report-counts, message-counts, alike, refusal-range}
 use Rattle.proof_calls.proofs.Passed.{passed, first-none}
 
 -- ==== Demand 1

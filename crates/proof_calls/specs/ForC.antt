@@ -1,28 +1,44 @@
 -- The same of the calls for C, in the numbers that they answer with (serduzhap_c, specs/Numbers).
 use Prim.Native.Nat.{ℕ, _*_, _≤_}
 use mathlib.Core.Path.{_≡_}
-use mathlib.Core.Logic.{_↔_}
+use mathlib.Core.Logic.{_↔_, _⊎_}
+use mathlib.Core.Bool.{cond}
 use mathlib.Core.List.{List}
-use lib.ListN.{take}
+use lib.Dec.{eqb}
+use lib.ListN.{getD, take}
 use Rattle.spec_text.specs.Bytes.{Bytes}
 use Rattle.spec_text.specs.Reading.{refusal, reading}
 use Rattle.spec_faults.specs.Faults.{recordLength}
-use Rattle.serduzhap_c.specs.declared.CheckNumbers.{CheckNumbers}
-use Rattle.serduzhap_c.specs.declared.ReportNumbers.{ReportNumbers}
-use Rattle.serduzhap_c.specs.declared.MessageNumbers.{MessageNumbers}
 use Rattle.proof_calls.specs.Passed.{Passes}
 
--- 0 exactly when the text passes; 1 to 7 with the line exactly when it is refused so; else the kind of a fault
-pub record PassedC (text : Bytes) (work : ℕ) (r : CheckNumbers) : Type 0 where
-  pub accepted : (r .number ≡ 0) ↔ Passes text work
-  pub refused : (k n : ℕ) → (reading text work ≡ refusal k n) ↔ ((r .number ≡ k) × (r .line ≡ n) × (1 ≤ k) × (k ≤ 7))
-  pub kinds : r .number ≤ 15
+-- the first number of an answer, and the one after it
+abbrev pub number : List ℕ → ℕ
+number r = getD r 0 0
+
+abbrev pub value : List ℕ → ℕ
+value r = getD r 1 0
+
+-- an answer's number is k or that of a refusal or a fault, 1 to 18: it is never 0, and never 100 but for check
+abbrev pub Numbered : ℕ → List ℕ → Type 0
+Numbered k r = (number r ≡ k) ⊎ ((1 ≤ number r) × (number r ≤ 18))
+
+-- 100 exactly when the text passes; 1 to 7 with the line exactly when it is refused so; else the kind of a fault
+pub record PassedC (text : Bytes) (work : ℕ) (r : List ℕ) : Type 0 where
+  pub accepted : (number r ≡ 100) ↔ Passes text work
+  pub refused : (k n : ℕ) → (reading text work ≡ refusal k n) ↔ ((number r ≡ k) × (value r ≡ n) × (1 ≤ k) × (k ≤ 7))
+  pub kinds : Numbered 100 r
+
+-- what a call wrote: so many records or bytes, if its number is 101
+abbrev pub count : List ℕ → ℕ
+count r = cond (eqb (number r) 101) (value r) 0
 
 -- two calls on one text, with buffers of the same lengths
-pub record SameReportC (new new′ : List ℕ) (r r′ : ReportNumbers) : Type 0 where
+pub record SameReportC (new new′ : List ℕ) (r r′ : List ℕ) : Type 0 where
+  pub kinds : Numbered 101 r
   pub answer : r ≡ r′
-  pub writes : take (recordLength * (r .count)) new ≡ take (recordLength * (r .count)) new′
+  pub writes : take (recordLength * count r) new ≡ take (recordLength * count r) new′
 
-pub record SameMessageC (new new′ : Bytes) (r r′ : MessageNumbers) : Type 0 where
+pub record SameMessageC (new new′ : Bytes) (r r′ : List ℕ) : Type 0 where
+  pub kinds : Numbered 101 r
   pub answer : r ≡ r′
-  pub writes : take (r .len) new ≡ take (r .len) new′
+  pub writes : take (count r) new ≡ take (count r) new′

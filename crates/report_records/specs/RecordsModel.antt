@@ -30,5 +30,8 @@ abbrev pub numbers : Record → List ℕ
 numbers r = r .kind ∷ r .start ∷ r .end ∷ r .name ∷ r .«name_len» ∷ r .class ∷ r .«class_len» ∷ []
 
 -- as they are written: 32 bits each
+abbrev pub cut32 : List ℕ → List ℕ
+cut32 ns = map (λ n. n % 4_294_967_296) ns
+
 abbrev pub numbers32 : Record → List ℕ
-numbers32 r = map (λ n. n % 4_294_967_296) (numbers r)
+numbers32 r = cut32 (numbers r)

@@ -1,2 +1,3 @@
 -- What the proofs share.
-mod Cases
+mod Stores
+pub mod Sizes

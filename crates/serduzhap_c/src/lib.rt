@@ -1,109 +1,125 @@
-// The four calls for C and Rust: a slice is a pointer and a count, an answer a struct of numbers. include/serduzhap.h is the header.
+// The calls for C and Rust, on every target: a slice is a pointer and a count, an answer a row of 32-bit numbers that the caller lends:
+// a number, then what goes with it, then 0. Nothing is returned. include/serduzhap.h is the header.
+use report_records::Record;
 use serduzhap::CheckResult;
 use serduzhap::MessageResult;
 use serduzhap::ReportResult;
 use spec_text::refusal;
 ghost use mathlib.Core.Path.{_≡_};
+ghost use mathlib.Core.List.{[], _∷_};
 ghost use lib.ListN.{length};
 ghost use Rattle.spec_answers.specs.Answers.{check, over, report, message, name};
-ghost use Rattle.serduzhap.specs.Calls.{checkSays};
-ghost use Rattle.serduzhap_c.specs.Numbers.{checkNumbers, reportNumbers, messageNumbers, nameNumbers};
+ghost use Rattle.report_records.specs.RecordsModel.{cut32};
+ghost use Rattle.serduzhap_c.specs.Numbers.{answerOf, partAnswer, version};
 
-// 0, accepted; 1 to 7, refused, with the line; 8 to 15, the first fault's kind, with the rest of its record.
-#[repr(C)]
-pub struct CheckNumbers {
-    pub number: usize,
-    pub line: usize,
-    pub start: u32,
-    pub end: u32,
-    pub name: usize,
-    pub name_len: usize,
-    pub class: usize,
-    pub class_len: usize,
-}
+// The first number of an answer that is neither a refusal nor a fault.
+pub const ACCEPTED: usize = 100;
 
-// 0, so many records written; 1 to 7, refused, with the line; 16, with the count of faults in place of the line.
-#[repr(C)]
-pub struct ReportNumbers {
-    pub number: usize,
-    pub line: usize,
-    pub count: usize,
-}
+pub const WRITTEN: usize = 101;
 
-// 0, so many bytes written; 1 to 7, refused, with the line; 17, 18.
-#[repr(C)]
-pub struct MessageNumbers {
-    pub number: usize,
-    pub line: usize,
-    pub len: usize,
-}
+pub const PART: usize = 102;
 
-// A part of the text.
-#[repr(C)]
-pub struct NameNumbers {
-    pub offset: usize,
-    pub len: usize,
-}
+// How many numbers each call's answer has.
+pub const CHECK_ANSWER: usize = 7;
 
-fn refused(number: usize, line: usize) -> CheckNumbers
-    ensures { λ r. ⌜ r ≡ record { number = number; line = line; start = 0; end = 0; name = 0; «name_len» = 0; class = 0; «class_len» = 0 } ⌝ }
+pub const REPORT_ANSWER: usize = 2;
+
+pub const MESSAGE_ANSWER: usize = 2;
+
+pub const NAME_ANSWER: usize = 3;
+
+pub const VERSION_ANSWER: usize = 3;
+
+// The version: major, minor, patch.
+pub const MAJOR: usize = 1;
+
+pub const MINOR: usize = 0;
+
+pub const PATCH: usize = 0;
+
+// Writes an answer of two numbers, 32 bits of each.
+fn put_two(answer: &mut [u32], number: usize, value: usize)
+    requires { ⌜ length (now answer) ≡ 2 ⌝ }
+    ensures { λ _. ⌜ now (answer .exit) ≡ cut32 (number ∷ value ∷ []) ⌝ }
 {
-    CheckNumbers {
-        number: number,
-        line: line,
-        start: 0,
-        end: 0,
-        name: 0,
-        name_len: 0,
-        class: 0,
-        class_len: 0,
-    }
+    work_rows::put(answer, 0, number);
+    work_rows::put(answer, 1, value);
 }
 
-fn check_numbers(answer: CheckResult) -> CheckNumbers
-    ensures { λ r. ⌜ r ≡ checkNumbers (checkSays answer) ⌝ }
+// Writes an answer of three.
+fn put_three(answer: &mut [u32], number: usize, first: usize, second: usize)
+    requires { ⌜ length (now answer) ≡ 3 ⌝ }
+    ensures { λ _. ⌜ now (answer .exit) ≡ cut32 (number ∷ first ∷ second ∷ []) ⌝ }
 {
-    match answer {
-        CheckResult::Accepted => refused(0, 0),
-        CheckResult::Faulty { record } => CheckNumbers {
-            number: record.kind,
-            line: 0,
-            start: record.start,
-            end: record.end,
-            name: record.name,
-            name_len: record.name_len,
-            class: record.class,
-            class_len: record.class_len,
+    work_rows::put(answer, 0, number);
+    work_rows::put(answer, 1, first);
+    work_rows::put(answer, 2, second);
+}
+
+// Writes an answer of seven: it is laid out as a record.
+fn put_seven(
+    answer: &mut [u32],
+    number: usize,
+    start: usize,
+    end: usize,
+    name: usize,
+    name_len: usize,
+    class: usize,
+    class_len: usize,
+)
+    requires { ⌜ length (now answer) ≡ 7 ⌝ }
+    ensures { λ _. ⌜ now (answer .exit) ≡ cut32 (number ∷ start ∷ end ∷ name ∷ «name_len» ∷ class ∷ «class_len» ∷ []) ⌝ }
+{
+    report_records::put_record(
+        answer,
+        0,
+        Record {
+            kind: number,
+            start: (start % 4294967296) as u32,
+            end: (end % 4294967296) as u32,
+            name: name,
+            name_len: name_len,
+            class: class,
+            class_len: class_len,
         },
-        CheckResult::Refused { number, line } => refused(number, line),
-    }
+    );
 }
 
 // Accepted, or the first fault.
 #[no_mangle]
-pub extern "C" fn serduzhap_check(text: &[u8], work: &mut [u32]) -> CheckNumbers
-    ensures { λ r. ⌜ r ≡ checkNumbers (check (now (text .entry)) (length (now (work .entry)))) ⌝ }
+pub extern "C" fn serduzhap_check(text: &[u8], work: &mut [u32], answer: &mut [u32; CHECK_ANSWER])
+    ensures { λ _. ⌜ now (answer .exit) ≡ answerOf 7 (check (now (text .entry)) (length (now (work .entry)))) ⌝ }
 {
-    check_numbers(serduzhap::check(text, work))
+    match serduzhap::check(text, work) {
+        CheckResult::Accepted => put_seven(answer, ACCEPTED, 0, 0, 0, 0, 0, 0),
+        CheckResult::Faulty { record } => put_seven(
+            answer,
+            record.kind,
+            work_rows::wide(record.start),
+            work_rows::wide(record.end),
+            record.name,
+            record.name_len,
+            record.class,
+            record.class_len,
+        ),
+        CheckResult::Refused { number, line } => put_seven(answer, number, line, 0, 0, 0, 0, 0),
+    }
 }
 
 // Writes all faults to the output as records of seven numbers.
 #[no_mangle]
-pub extern "C" fn serduzhap_report(text: &[u8], work: &mut [u32], out: &mut [u32]) -> ReportNumbers
-    ensures { λ r. ⌜ r ≡ reportNumbers (report (now (text .entry)) (length (now (work .entry))) (length (now (out .entry))) .answer) ⌝ }
-    ensures { λ r. ⌜ now (out .exit) ≡ over (report (now (text .entry)) (length (now (work .entry))) (length (now (out .entry))) .writes) (now (out .entry)) ⌝ }
+pub extern "C" fn serduzhap_report(
+    text: &[u8],
+    work: &mut [u32],
+    out: &mut [u32],
+    answer: &mut [u32; REPORT_ANSWER],
+)
+    ensures { λ _. ⌜ now (answer .exit) ≡ answerOf 2 (report (now (text .entry)) (length (now (work .entry))) (length (now (out .entry))) .answer) ⌝ }
+    ensures { λ _. ⌜ now (out .exit) ≡ over (report (now (text .entry)) (length (now (work .entry))) (length (now (out .entry))) .writes) (now (out .entry)) ⌝ }
 {
     match serduzhap::report(text, work, out) {
-        ReportResult::Written { count } => ReportNumbers {
-            number: 0,
-            line: 0,
-            count: count,
-        },
-        ReportResult::Refused { number, line } => ReportNumbers {
-            number: number,
-            line: line,
-            count: 0,
-        },
+        ReportResult::Written { count } => put_two(answer, WRITTEN, count),
+        ReportResult::Refused { number, line } => put_two(answer, number, line),
     }
 }
 
@@ -114,42 +130,37 @@ pub extern "C" fn serduzhap_message(
     work: &mut [u32],
     i: usize,
     out: &mut [u8],
-) -> MessageNumbers
-    ensures { λ r. ⌜ r ≡ messageNumbers (message (now (text .entry)) (length (now (work .entry))) i (length (now (out .entry))) .answer) ⌝ }
-    ensures { λ r. ⌜ now (out .exit) ≡ over (message (now (text .entry)) (length (now (work .entry))) i (length (now (out .entry))) .writes) (now (out .entry)) ⌝ }
+    answer: &mut [u32; MESSAGE_ANSWER],
+)
+    ensures { λ _. ⌜ now (answer .exit) ≡ answerOf 2 (message (now (text .entry)) (length (now (work .entry))) i (length (now (out .entry))) .answer) ⌝ }
+    ensures { λ _. ⌜ now (out .exit) ≡ over (message (now (text .entry)) (length (now (work .entry))) i (length (now (out .entry))) .writes) (now (out .entry)) ⌝ }
 {
     match serduzhap::message(text, work, i, out) {
-        MessageResult::Written { len } => MessageNumbers {
-            number: 0,
-            line: 0,
-            len: len,
-        },
-        MessageResult::Refused { number, line } => MessageNumbers {
-            number: number,
-            line: line,
-            len: 0,
-        },
-        MessageResult::NoFault => MessageNumbers {
-            number: refusal::NO_SUCH_FAULT,
-            line: 0,
-            len: 0,
-        },
-        MessageResult::TooLong => MessageNumbers {
-            number: refusal::MESSAGE_TOO_LONG,
-            line: 0,
-            len: 0,
-        },
+        MessageResult::Written { len } => put_two(answer, WRITTEN, len),
+        MessageResult::Refused { number, line } => put_two(answer, number, line),
+        MessageResult::NoFault => put_two(answer, refusal::NO_SUCH_FAULT, 0),
+        MessageResult::TooLong => put_two(answer, refusal::MESSAGE_TOO_LONG, 0),
     }
 }
 
 // Where the name of fault i stands in the text.
 #[no_mangle]
-pub extern "C" fn serduzhap_name(text: &[u8], work: &mut [u32], i: usize) -> NameNumbers
-    ensures { λ r. ⌜ r ≡ nameNumbers (name (now (text .entry)) (length (now (work .entry))) i) ⌝ }
+pub extern "C" fn serduzhap_name(
+    text: &[u8],
+    work: &mut [u32],
+    i: usize,
+    answer: &mut [u32; NAME_ANSWER],
+)
+    ensures { λ _. ⌜ now (answer .exit) ≡ partAnswer (name (now (text .entry)) (length (now (work .entry))) i) ⌝ }
 {
     let part = serduzhap::name_part(text, work, i);
-    NameNumbers {
-        offset: part.offset,
-        len: part.len,
-    }
+    put_three(answer, PART, part.offset, part.len);
+}
+
+// The version of this library.
+#[no_mangle]
+pub extern "C" fn serduzhap_version(answer: &mut [u32; VERSION_ANSWER])
+    ensures { λ _. ⌜ now (answer .exit) ≡ version ⌝ }
+{
+    put_three(answer, MAJOR, MINOR, PATCH);
 }

@@ -1,4 +1,5 @@
-// Replays calls of check, report, message and name, and writes a line for each: the answer, and a sum over the whole output buffer.
+// Replays the calls for C, and writes a line for each: all numbers of the answer, which were ones before, what was written, and a sum
+// over the whole output buffer.
 //
 // Standard input is frames: a letter, two numbers of four bytes, the low byte first, and bytes for t and r.
 //   t 0 n ..   the text is these n bytes           r k n ..   k copies of these n bytes more
@@ -7,14 +8,17 @@
 //   q n k      the same, all 0
 //   m i k      message of fault i, to k bytes of output, all 255
 //   n i _      name of fault i
-use report_records::Record;
-use serduzhap::CheckResult;
-use serduzhap::MessageResult;
-use serduzhap::ReportResult;
+//   v _ _      version
+use serduzhap_c::CHECK_ANSWER;
+use serduzhap_c::MESSAGE_ANSWER;
+use serduzhap_c::NAME_ANSWER;
+use serduzhap_c::REPORT_ANSWER;
+use serduzhap_c::VERSION_ANSWER;
+use serduzhap_c::WRITTEN;
 use test_frames::Step;
 ghost use Prim.Native.Nat.{_<_};
 
-// The letters of calls: c, p, q, m; any other is n.
+// The letters of calls: c, p, q, m, v; any other is n.
 const CHECK: usize = 99;
 
 const REPORT: usize = 112;
@@ -22,6 +26,11 @@ const REPORT: usize = 112;
 const REPORT_ZEROS: usize = 113;
 
 const MESSAGE: usize = 109;
+
+const VERSION: usize = 118;
+
+// What every number of an answer is before a call.
+const ONES: u32 = 4294967295;
 
 fn narrow(n: usize) -> u32 {
     (n % 4294967296) as u32
@@ -57,74 +66,88 @@ fn sum_of_bytes(bytes: &[u8]) -> usize {
     sum
 }
 
-fn say_refused(number: usize, line: usize) {
-    test_frames::say(b"refused\t");
-    test_frames::put(number, b"\t");
-    test_frames::put(line, b"\t");
+// Says a number.
+fn say_number(n: u32) {
+    test_frames::put(test_frames::wide(n), b"\t");
 }
 
-fn say_record(r: Record) {
-    test_frames::put(r.kind, b"\t");
-    test_frames::put(test_frames::wide(r.start), b"\t");
-    test_frames::put(test_frames::wide(r.end), b"\t");
-    test_frames::put(r.name, b"\t");
-    test_frames::put(r.name_len, b"\t");
-    test_frames::put(r.class, b"\t");
-    test_frames::put(r.class_len, b"\n");
+// Says all numbers of an answer.
+fn say_answer(answer: &[u32]) {
+    let mut i = 0;
+    while i < answer.len() {
+        say_number(answer[i]);
+        i += 1;
+    }
+}
+
+// The same of two numbers, and of seven.
+fn say_two(answer: &[u32; 2]) {
+    say_answer(answer);
+}
+
+fn say_seven(answer: &[u32; CHECK_ANSWER]) {
+    say_answer(answer);
 }
 
 fn check(text: &[u8], work: &mut [u32], value: u32) {
+    let mut answer = [ONES; CHECK_ANSWER];
     test_frames::fill(work, value);
+    serduzhap_c::serduzhap_check(text, work, &mut answer);
     test_frames::say(b"check\t");
-    match serduzhap::check(text, work) {
-        CheckResult::Accepted => test_frames::say(b"accepted\n"),
-        CheckResult::Faulty { record } => say_record(record),
-        CheckResult::Refused { number, line } => {
-            say_refused(number, line);
-            test_frames::say(b"\n");
-        }
-    }
+    say_seven(&answer);
+    test_frames::say(b"\n");
 }
 
 fn report(text: &[u8], work: &mut [u32], out: &mut [u32], value: u32) {
+    let mut answer = [ONES; REPORT_ANSWER];
     test_frames::fill(work, value);
     test_frames::fill(out, value);
+    serduzhap_c::serduzhap_report(text, work, out, &mut answer);
     test_frames::say(b"report\t");
-    match serduzhap::report(text, work, out) {
-        ReportResult::Written { count } => {
-            test_frames::say(b"written\t");
-            test_frames::put(count, b"\t");
-        }
-        ReportResult::Refused { number, line } => say_refused(number, line),
-    }
+    say_two(&answer);
     test_frames::put(sum_of(out), b"\n");
+}
+
+// Says the bytes that a message was written to, if it was.
+fn say_written(number: usize, len: usize, out: &[u8]) {
+    if number == WRITTEN {
+        test_frames::say(test_frames::first(out, len));
+    }
+    test_frames::say(b"\t");
 }
 
 // Writes the message of fault i to the output.
 fn message(text: &[u8], work: &mut [u32], i: usize, out: &mut [u8]) {
-    test_frames::fill(work, 4294967295);
+    let mut answer = [ONES; MESSAGE_ANSWER];
+    test_frames::fill(work, ONES);
     fill_bytes(out, 255);
+    serduzhap_c::serduzhap_message(text, work, i, out, &mut answer);
     test_frames::say(b"message\t");
-    match serduzhap::message(text, work, i, out) {
-        MessageResult::Written { len } => {
-            test_frames::say(b"written\t");
-            test_frames::put(len, b"\t");
-            test_frames::say(test_frames::first(out, len));
-            test_frames::say(b"\t");
-        }
-        MessageResult::Refused { number, line } => say_refused(number, line),
-        MessageResult::NoFault => test_frames::say(b"17\t"),
-        MessageResult::TooLong => test_frames::say(b"18\t"),
-    }
+    say_two(&answer);
+    say_written(
+        test_frames::wide(answer[0]),
+        test_frames::wide(answer[1]),
+        out,
+    );
     test_frames::put(sum_of_bytes(out), b"\n");
 }
 
+// The name as the part that C is told, and as the slice that Rattle is handed.
 fn name(text: &[u8], work: &mut [u32], i: usize) {
-    test_frames::fill(work, 4294967295);
+    let mut answer = [ONES; NAME_ANSWER];
+    test_frames::fill(work, ONES);
+    serduzhap_c::serduzhap_name(text, work, i, &mut answer);
     test_frames::say(b"name\t");
-    let found = serduzhap::name(text, work, i);
-    test_frames::put(found.len(), b"\t");
-    test_frames::say(found);
+    say_answer(&answer);
+    test_frames::say(serduzhap::name(text, work, i));
+    test_frames::say(b"\n");
+}
+
+fn version() {
+    let mut answer = [ONES; VERSION_ANSWER];
+    serduzhap_c::serduzhap_version(&mut answer);
+    test_frames::say(b"version\t");
+    say_answer(&answer);
     test_frames::say(b"\n");
 }
 
@@ -143,9 +166,10 @@ fn call(
     let m = test_frames::least(b, bytes.len());
     match letter {
         CHECK => check(text, &mut work[0..n], narrow(b)),
-        REPORT => report(text, &mut work[0..n], &mut out[0..k], 4294967295),
+        REPORT => report(text, &mut work[0..n], &mut out[0..k], ONES),
         REPORT_ZEROS => report(text, &mut work[0..n], &mut out[0..k], 0),
         MESSAGE => message(text, work, a, &mut bytes[0..m]),
+        VERSION => version(),
         _ => name(text, work, a),
     }
 }
