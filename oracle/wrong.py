@@ -185,66 +185,78 @@ RULES = [
 # what is wrong, the command that has to notice it, the place in SHIM and the C that stands there
 LIBRARIES = [
     ('check accepts everything', 'trees', 'CHECK',
-     'memset(&a, 0, sizeof a);'),
+     'memset(a, 0, 7 * sizeof *a); a[0] = 100;'),
+    ('check answers with nothing but zeros', 'trees', 'CHECK',
+     'memset(a, 0, 7 * sizeof *a);'),
+    ('check accepts with a number that is not documented', 'trees', 'CHECK',
+     'if (a[0] == 100) a[0] = 99;'),
     ('check answers 3 to a text that is read', 'trees', 'CHECK',
-     'if (a.number == 0) a.number = 3, a.line = 1;'),
+     'if (a[0] == 100) a[0] = 3, a[1] = 1;'),
     ('a report leaves its last fault out', 'trees', 'REPORT',
-     'if (a.number == 0 && a.count > 1) a.count--;'),
+     'if (a[0] == 101 && a[1] > 1) a[1]--;'),
     ('a message says another name', 'trees', 'MESSAGE',
-     'if (a.number == 0 && a.len > 60) out[a.len - 1] ^= 1; else if (a.number == 0) out[a.len - 1] = 33;'),
+     'if (a[0] == 101 && a[1] > 60) out[a[1] - 1] ^= 1; else if (a[0] == 101) out[a[1] - 1] = 33;'),
     ('check depends on the work buffer', 'damaged', 'CHECK_FIRST',
      'if (n > 4096 && work[16383] == 0) t = 0;'),
     ('report writes a number past the output', 'damaged', 'REPORT',
-     'if (a.number == 0) out[o] = 0;'),
+     'if (a[0] == 101) out[o] = 0;'),
     ('report writes a number before the output', 'damaged', 'REPORT',
-     'if (a.number == 0) out[-1] = 0;'),
+     'if (a[0] == 101) out[-1] = 0;'),
     ('report clears the output on refusal 16', 'damaged', 'REPORT',
-     'if (a.number == 16 && o > 0) out[0] = 0;'),
+     'if (a[0] == 16 && o > 0) out[0] = 0;'),
     ('report writes one number too many', 'damaged', 'REPORT',
-     'if (a.number == 0 && 7 * a.count < o) out[7 * a.count] = 5;'),
+     'if (a[0] == 101 && 7 * a[1] < o) out[7 * a[1]] = 5;'),
     ('message writes a zero after its words', 'damaged', 'MESSAGE',
-     'if (a.number == 0 && a.len < o) out[a.len] = 0;'),
+     'if (a[0] == 101 && a[1] < o) out[a[1]] = 0;'),
     ('message answers 18 before 17', 'damaged', 'MESSAGE',
-     'if (a.number == 17 && o == 0) a.number = 18;'),
+     'if (a[0] == 17 && o == 0) a[0] = 18;'),
     ('name reads a byte past the text', 'damaged', 'NAME',
-     'if (text[t] == 7) a.len++;'),
+     'if (text[t] == 7) a[2]++;'),
     ('name writes to the text', 'damaged', 'NAME',
      'if (t > 0) *(volatile uint8_t *)(text + t - 1) = text[t - 1];'),
     ('check writes past the work buffer', 'damaged', 'CHECK',
      'work[n] = 0;'),
     ('a short work buffer is taken', 'damaged', 'CHECK',
-     'if (a.number == 2) a.number = 0;'),
+     'if (a[0] == 2) a[0] = 100;'),
+    ('check leaves the last number of an answer as it was', 'damaged', 'CHECK',
+     'if (a[0] != 15) a[6] = last;'),
+    ('check writes a number past its answer', 'damaged', 'CHECK',
+     'a[7] = 0;'),
+    ('name writes a number before its answer', 'damaged', 'NAME',
+     'a[-1] = 0;'),
+    ('report refuses at another line than check', 'damaged', 'REPORT',
+     'if (a[0] == 5) a[1]++;'),
+    ('name answers with another part', 'damaged', 'NAME',
+     'if (a[2] > 1) a[2]--;'),
 ]
 
 # the library's calls under their own names, around those of the built library, which are renamed
 SHIM = '''
 #include "serduzhap.h"
 #include <string.h>
-#define INPUT const uint8_t *text, size_t t, uint32_t *work, size_t n
-struct serduzhap_check real_check(INPUT);
-struct serduzhap_report real_report(INPUT, uint32_t *out, size_t o);
-struct serduzhap_message real_message(INPUT, size_t i, uint8_t *out, size_t o);
-struct serduzhap_name real_name(INPUT, size_t i);
-struct serduzhap_check serduzhap_check(INPUT) {
+#define INPUT const uint8_t *text, uint64_t t, uint32_t *work, uint64_t n
+void real_check(INPUT, uint32_t *a);
+void real_report(INPUT, uint32_t *out, uint64_t o, uint32_t *a);
+void real_message(INPUT, uint64_t i, uint8_t *out, uint64_t o, uint32_t *a);
+void real_name(INPUT, uint64_t i, uint32_t *a);
+void serduzhap_check(INPUT, uint32_t *a) {
+    uint32_t last = a[6];
     CHECK_FIRST
-    struct serduzhap_check a = real_check(text, t, work, n);
+    real_check(text, t, work, n, a);
     CHECK
-    return a;
+    (void)last;
 }
-struct serduzhap_report serduzhap_report(INPUT, uint32_t *out, size_t o) {
-    struct serduzhap_report a = real_report(text, t, work, n, out, o);
+void serduzhap_report(INPUT, uint32_t *out, uint64_t o, uint32_t *a) {
+    real_report(text, t, work, n, out, o, a);
     REPORT
-    return a;
 }
-struct serduzhap_message serduzhap_message(INPUT, size_t i, uint8_t *out, size_t o) {
-    struct serduzhap_message a = real_message(text, t, work, n, i, out, o);
+void serduzhap_message(INPUT, uint64_t i, uint8_t *out, uint64_t o, uint32_t *a) {
+    real_message(text, t, work, n, i, out, o, a);
     MESSAGE
-    return a;
 }
-struct serduzhap_name serduzhap_name(INPUT, size_t i) {
-    struct serduzhap_name a = real_name(text, t, work, n, i);
+void serduzhap_name(INPUT, uint64_t i, uint32_t *a) {
+    real_name(text, t, work, n, i, a);
     NAME
-    return a;
 }
 '''
 

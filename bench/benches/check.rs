@@ -2,10 +2,10 @@
 //! against a plain parser and the pass, and against the pass alone on a tree that is ready.
 
 use bench::script::script;
-use bench::stack::stack_used;
+use bench::stack::stacks_of_calls;
 use bench::timing::best;
-use oracle::library::{check, serduzhap_check, WORK};
 use original::text_tree::{self, Tree};
+use serduzhap::{check, Check, STACK, WORK};
 use std::hint::black_box;
 
 fn main() {
@@ -16,12 +16,18 @@ fn main() {
     compare("1,023 functions in a function", &functions_in_a_function(1023), 10);
     compare("64 deep, functions in functions", &nested_functions(63), 10000);
 
-    let stack = |text: &[u8]| stack_used(serduzhap_check, text, &mut vec![0; WORK]);
+    print_stacks("the script of 3,000 lines", &script(3000));
+    print_stacks("64 deep, functions in functions", &nested_functions(63));
+    print_stacks("64 deep, lambdas in lambdas", &nested_lambdas(62, "lit\t0\t1\n"));
+    print_stacks("the same with a fault", &nested_lambdas(62, "var\t0\t1\ty\n"));
+}
+
+/// The stack of each call on a text; none takes more than the header says.
+fn print_stacks(title: &str, text: &[u8]) {
+    let stacks @ [check, report, message, name] = stacks_of_calls(text);
+    assert!(stacks.iter().all(|&stack| stack <= STACK), "{title}");
     println!(
-        "stack: {} bytes for the script of 3,000 lines, {} and {} at depth 64 (functions, lambdas)",
-        stack(&script(3000)),
-        stack(&nested_functions(63)),
-        stack(&nested_lambdas(62))
+        "stack, {title:<31} | check {check:>5} bytes | report {report:>5} | message {message:>5} | name {name:>5}"
     );
 }
 
@@ -29,8 +35,9 @@ fn main() {
 fn compare(title: &str, text: &[u8], calls: u32) {
     let mut work = vec![u32::MAX; WORK];
     let tree = text_tree::parse(text).unwrap_or_else(|refusal| panic!("{title}: {refusal:?}"));
-    assert_eq!(check(text, &mut work).number == 0, passes(&tree), "{title}");
-    let ours = best(calls, || check(black_box(text), &mut work).number) / 1000.0;
+    let mut accepts = |text: &[u8]| check(text, &mut work) == Check::Accepted;
+    assert_eq!(accepts(text), passes(&tree), "{title}");
+    let ours = best(calls, || usize::from(accepts(black_box(text)))) / 1000.0;
     let parse_and_pass = || text_tree::parse(black_box(text)).map_or(0, |tree| usize::from(passes(&tree)));
     let both = best(calls, parse_and_pass) / 1000.0;
     let alone = best(calls, || usize::from(passes(black_box(&tree)))) / 1000.0;
@@ -62,7 +69,7 @@ fn nested_functions(count: usize) -> Vec<u8> {
     format!("tree\t0\t1\n{functions}pass\t0\t1\n").into_bytes()
 }
 
-/// A lambda in a lambda in a lambda, and so on.
-fn nested_lambdas(count: usize) -> Vec<u8> {
-    format!("tree\t0\t1\nexpr\t0\t1\n{}lit\t0\t1\n", "lambda\t0\t1\tx\n".repeat(count)).into_bytes()
+/// A lambda in a lambda in a lambda, and so on, around an expression of one line.
+fn nested_lambdas(count: usize, inmost: &str) -> Vec<u8> {
+    format!("tree\t0\t1\nexpr\t0\t1\n{}{inmost}", "lambda\t0\t1\tx\n".repeat(count)).into_bytes()
 }

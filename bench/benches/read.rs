@@ -3,11 +3,11 @@
 
 use bench::flat_script::flat_script;
 use bench::many_names::{colliding_globals, globals};
-use bench::reader::{read, serduzhap_read};
-use bench::stack::stack_used;
+use bench::reader::read;
+use bench::stack::stack_of_reader;
 use bench::timing::best;
-use oracle::library::WORK;
 use original::text_tree;
+use serduzhap::WORK;
 use std::hint::black_box;
 
 fn main() {
@@ -23,8 +23,8 @@ fn main() {
     compare("920 names of 63 bytes, one hash", &colliding_globals(920, &"c".repeat(58)), 3);
 
     let deep = format!("tree\t0\t1\nexpr\t0\t1\n{}lit\t0\t1\n", "un\t0\t1\n".repeat(62));
-    let stack = |text: &[u8]| stack_used(serduzhap_read, text, &mut vec![0; WORK]);
-    println!("stack: {} bytes for the script, {} bytes at depth 64", stack(&script), stack(deep.as_bytes()));
+    let (stack, deep_stack) = (stack_of_reader(&script), stack_of_reader(deep.as_bytes()));
+    println!("stack: {stack} bytes for the script, {deep_stack} bytes at depth 64");
 }
 
 /// One text through both readers, which have to agree on it; each run has so many calls.

@@ -4,25 +4,22 @@
 //!
 //! Of several names that one lambda captures the original names any, so captures are compared as a set.
 
-use crate::fault::{kind_of, may_be_first, Fault, METHOD_WITHOUT_SELF};
-use crate::library::{self, RECORD, WORK};
+use crate::fault::{kind_of, may_be_first, Fault};
 use crate::repair::repair;
 use crate::tally::Tally;
 use crate::visit::{self, Visit};
 use original::parser::ast::{BinaryOp, Expr, ExprS, Literal, Stmt, StmtS, UnaryOp};
 use original::semantic::SemanticError;
-use original::text_tree::{self, Tree, MOST_LINES};
+use original::text_tree::{self, Tree};
 use original::tree_text::tree_text;
 use original::types::Span;
+use serduzhap::{check, message, report, Check, Kind, Record, LONGEST_MESSAGE, LONGEST_REPORT, WORK};
 
 /// What came of a comparison; the error says what differs, and where.
 pub type Compared<T = ()> = Result<T, String>;
 
 /// Up to so many faults are repaired one by one; of more, one in so many at a time.
 const ONE_BY_ONE: usize = 32;
-
-/// Room for a message; the longest is shorter.
-const MESSAGE: usize = 512;
 
 /// The buffers that every comparison uses again, and what was compared.
 pub struct Comparison {
@@ -37,8 +34,8 @@ impl Default for Comparison {
         Comparison {
             tally: Tally::default(),
             work: vec![0; WORK],
-            out: vec![0; RECORD * MOST_LINES],
-            message: vec![0; MESSAGE],
+            out: vec![0; LONGEST_REPORT],
+            message: vec![0; LONGEST_MESSAGE],
         }
     }
 }
@@ -60,7 +57,7 @@ impl Comparison {
             faults.swap(0, named);
             faults.truncate(count.div_ceil(ONE_BY_ONE));
             // a method that gets its `self` may lose further faults
-            let more_may_go = faults.iter().any(|fault| fault.kind == METHOD_WITHOUT_SELF);
+            let more_may_go = faults.iter().any(|fault| fault.kind == Kind::MethodWithoutSelf);
             left = if more_may_go { None } else { Some(count - faults.len()) };
             repair(&mut body, &faults);
         }
@@ -80,7 +77,7 @@ impl Comparison {
         if (globals, body) != (&read.globals[..], &read.body[..]) {
             return Err("the text read back is another tree".to_string());
         }
-        let faults = self.faults(text);
+        let faults = self.faults(text)?;
         if left.is_some_and(|count| count != faults.len()) {
             return Err(format!("{} faults left, not {left:?}", faults.len()));
         }
@@ -91,63 +88,79 @@ impl Comparison {
     /// The tree of a text, read by the plain parser. None where both it and the library refuse the text; they
     /// have to do so for the same reason and at the same line.
     pub fn read_by_both(&mut self, text: &[u8]) -> Compared<Option<Tree>> {
-        let check = library::check(text, &mut self.work);
-        match text_tree::parse(text) {
-            Ok(_) if check.refused() => Err(format!("refused: {} at line {}", check.number, check.line)),
-            Ok(tree) => {
+        match (text_tree::parse(text), check(text, &mut self.work)) {
+            (Ok(_), Check::Refused(refusal)) => Err(format!("a tree, and refused: {refusal}")),
+            (Ok(tree), _) => {
                 self.tally.note_size(text, &tree);
                 Ok(Some(tree))
             }
-            Err(refusal) if (refusal.number, refusal.line) == (check.number, check.line) => {
-                self.tally.refused[refusal.number] += 1;
+            (Err(theirs), Check::Refused(ours))
+                if (theirs.number, theirs.line) == (ours.reason.number() as usize, ours.line as usize) =>
+            {
+                self.tally.refused[theirs.number] += 1;
                 Ok(None)
             }
-            Err(refusal) => Err(format!("{refusal:?} and {check:?}")),
+            (Err(theirs), ours) => Err(format!("{theirs:?}, and {ours:?}")),
         }
     }
 
     /// The first error of the original against the first fault of the library. Answers with the place in the
     /// report of the fault that the original names, with none where both accept the tree.
     pub fn compare_first(&mut self, text: &[u8], tree: &Tree, faults: &[Fault]) -> Compared<Option<usize>> {
-        let check = library::check(text, &mut self.work);
+        let first = check(text, &mut self.work);
         let Some(SemanticError { message, span }) = original::first_error(&tree.globals, &tree.body) else {
             self.tally.accepted += 1;
-            let accepted = check.number == 0 && faults.is_empty();
-            return if accepted { Ok(None) } else { Err(format!("no error, and {check:?}")) };
+            let accepted = first == Check::Accepted && faults.is_empty();
+            return if accepted { Ok(None) } else { Err(format!("no error, and {first:?}")) };
         };
         let kind = kind_of(&message);
-        self.tally.first_faults[kind] += 1;
-        if (check.number, check.start, check.end) != (kind, span.start, span.end) {
-            return Err(format!("{message} at {span:?}, and {check:?}"));
+        self.tally.first_faults[kind.number() as usize] += 1;
+        let same_place = |record: Record| (record.kind, record.start, record.end) == (kind, span.start, span.end);
+        if !matches!(first, Check::Faulty(record) if same_place(record)) {
+            return Err(format!("{message} at {span:?}, and {first:?}"));
         }
+        self.named(text, faults, &message).map(Some)
+    }
+
+    /// Which of the faults that the original may name first has this message; each one's message is built from
+    /// its record as the library writes it.
+    fn named(&mut self, text: &[u8], faults: &[Fault], message: &str) -> Compared<usize> {
         let candidates = may_be_first(faults);
         self.tally.several_captures += u64::from(candidates > 1);
-        let named = (0..candidates).find(|&i| self.message(text, i) == message);
-        named.map(Some).ok_or_else(|| format!("{message}, and {}", self.message(text, 0)))
+        for (i, fault) in faults.iter().take(candidates).enumerate() {
+            let written = self.message(text, i)?;
+            if written != fault.message {
+                return Err(format!("{written}, and from the record {}", fault.message));
+            }
+            if written == message {
+                return Ok(i);
+            }
+        }
+        Err(format!("{message}, and no fault of the report says so"))
     }
 
     /// All faults of a text that is not refused.
-    pub fn faults(&mut self, text: &[u8]) -> Vec<Fault> {
-        let report = library::report(text, &mut self.work, &mut self.out);
-        let records = self.out[..RECORD * report.count].chunks(RECORD);
+    pub fn faults(&mut self, text: &[u8]) -> Compared<Vec<Fault>> {
+        let records = report(text, &mut self.work, &mut self.out).map_err(|why| format!("no report: {why}"))?;
         records.map(|record| fault(text, record)).collect()
     }
 
     /// The library's message of fault i.
-    fn message(&mut self, text: &[u8], i: usize) -> String {
-        let message = library::message(text, &mut self.work, i, &mut self.message);
-        String::from_utf8_lossy(&self.message[..message.len]).into_owned()
+    fn message(&mut self, text: &[u8], i: usize) -> Compared<&str> {
+        message(text, &mut self.work, i, &mut self.message).map_err(|why| format!("no message {i}: {why}"))
     }
 }
 
-/// The fault of a record: kind, start, end, offset and length of the name; then those of the class name.
-fn fault(text: &[u8], record: &[u32]) -> Fault {
-    let (offset, length) = (record[3] as usize, record[4] as usize);
-    Fault {
-        kind: record[0] as usize,
-        span: Span { start: record[1], end: record[2] },
-        name: String::from_utf8_lossy(&text[offset..offset + length]).into_owned(),
-    }
+/// The fault of a record.
+fn fault(text: &[u8], record: Record) -> Compared<Fault> {
+    let (name, message) = (record.name.of(text), record.message(text));
+    let (name, message) = name.zip(message).ok_or_else(|| format!("names are not in the text: {record:?}"))?;
+    Ok(Fault {
+        kind: record.kind,
+        span: Span { start: record.start, end: record.end },
+        name: String::from_utf8_lossy(name).into_owned(),
+        message: message.to_string(),
+    })
 }
 
 /// Takes away what the text does not hold: values, operators, and whether there is an `else` without

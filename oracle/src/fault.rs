@@ -1,44 +1,38 @@
-//! A fault of a report, and the kinds by their numbers in docs/FORMAT.md.
+//! A fault of a report, and the kind of a message of the original.
 
 use original::types::Span;
-
-pub const UNDEFINED_VARIABLE: usize = 8;
-pub const UNDEFINED_FUNCTION: usize = 9;
-pub const UNDEFINED_CAPTURE: usize = 10;
-pub const UNBOUND_VARIABLE: usize = 11;
-pub const UNBOUND_FUNCTION: usize = 12;
-pub const UNBOUND_CAPTURE: usize = 13;
-pub const INVALID_TARGET: usize = 14;
-pub const METHOD_WITHOUT_SELF: usize = 15;
+use serduzhap::Kind;
 
 /// How the original's messages start, each with its kind.
-const MESSAGES: [(&str, usize); 8] = [
-    ("Undefined variable: ", UNDEFINED_VARIABLE),
-    ("Undefined function: ", UNDEFINED_FUNCTION),
-    ("Undefined variable '", UNDEFINED_CAPTURE),
-    ("Unbound local variable: ", UNBOUND_VARIABLE),
-    ("Unbound local function: ", UNBOUND_FUNCTION),
-    ("Unbound local variable '", UNBOUND_CAPTURE),
-    ("Invalid assignment target: ", INVALID_TARGET),
-    ("Method '", METHOD_WITHOUT_SELF),
+const MESSAGES: [(&str, Kind); 8] = [
+    ("Undefined variable: ", Kind::UndefinedVariable),
+    ("Undefined function: ", Kind::UndefinedFunction),
+    ("Undefined variable '", Kind::UndefinedCapture),
+    ("Unbound local variable: ", Kind::UnboundVariable),
+    ("Unbound local function: ", Kind::UnboundFunction),
+    ("Unbound local variable '", Kind::UnboundCapture),
+    ("Invalid assignment target: ", Kind::InvalidTarget),
+    ("Method '", Kind::MethodWithoutSelf),
 ];
 
 /// What of a fault's record finds its place in the tree: there each span starts at a number of its own.
 pub struct Fault {
-    pub kind: usize,
+    pub kind: Kind,
     pub span: Span,
     pub name: String,
+    /// The message that is built from the record.
+    pub message: String,
 }
 
 impl Fault {
     /// Whether a lambda is blamed for a name that it captures.
     pub fn is_capture(&self) -> bool {
-        matches!(self.kind, UNDEFINED_CAPTURE | UNBOUND_CAPTURE)
+        matches!(self.kind, Kind::UndefinedCapture | Kind::UnboundCapture)
     }
 }
 
 /// The kind of a message of the original.
-pub fn kind_of(message: &str) -> usize {
+pub fn kind_of(message: &str) -> Kind {
     let found = MESSAGES.iter().find(|(start, _)| message.starts_with(start));
     found.expect("a message of the original").1
 }

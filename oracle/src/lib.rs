@@ -10,7 +10,6 @@ pub mod damage;
 pub mod every_tree;
 pub mod fault;
 pub mod guarded;
-pub mod library;
 pub mod numbers;
 pub mod pages;
 pub mod random_tree;

@@ -2,10 +2,11 @@
 //! captured name a literal wherever the lambda reads it, a refused target an empty tuple. A method without
 //! `self` gets it, which may take further faults away.
 
-use crate::fault::*;
+use crate::fault::Fault;
 use crate::visit::{self, Visit};
 use original::parser::ast::{Expr, ExprS, Literal, MethodDef, Stmt, StmtS};
 use original::text_tree::MOST_PARAMS;
+use serduzhap::Kind;
 use std::collections::HashMap;
 
 /// What a faulty read becomes.
@@ -29,7 +30,7 @@ impl Visit for Repair<'_> {
     fn stmt(&mut self, stmt: &mut StmtS) {
         let Stmt::Class { methods, .. } = &mut stmt.0 else { return };
         for fault in self.starting_at.get(&stmt.1.start).into_iter().flatten() {
-            if fault.kind == METHOD_WITHOUT_SELF {
+            if fault.kind == Kind::MethodWithoutSelf {
                 give_self(methods, &fault.name);
             }
         }
@@ -38,13 +39,15 @@ impl Visit for Repair<'_> {
     fn expr(&mut self, expr: &mut ExprS) {
         for fault in self.starting_at.get(&expr.1.start).into_iter().flatten() {
             match (&mut expr.0, fault.kind) {
-                (read, UNDEFINED_VARIABLE | UNBOUND_VARIABLE) => *read = NOTHING,
-                (Expr::Call { func_name, .. }, UNDEFINED_FUNCTION | UNBOUND_FUNCTION) => func_name.0 = NOTHING,
-                (Expr::Lambda { body, .. }, UNDEFINED_CAPTURE | UNBOUND_CAPTURE) => {
+                (read, Kind::UndefinedVariable | Kind::UnboundVariable) => *read = NOTHING,
+                (Expr::Call { func_name, .. }, Kind::UndefinedFunction | Kind::UnboundFunction) => {
+                    func_name.0 = NOTHING
+                }
+                (Expr::Lambda { body, .. }, Kind::UndefinedCapture | Kind::UnboundCapture) => {
                     visit::expr(body, &mut ForgetName { name: &fault.name });
                 }
-                (target, INVALID_TARGET) => *target = Expr::Tuple(Vec::new()),
-                _ => panic!("no place of kind {}", fault.kind),
+                (target, Kind::InvalidTarget) => *target = Expr::Tuple(Vec::new()),
+                _ => panic!("no place of kind {:?}", fault.kind),
             }
         }
     }

@@ -36,7 +36,7 @@ pub fn answer(text: &[u8]) -> String {
     match original::first_error(&tree.globals, &tree.body) {
         None => "accepted\n".to_string(),
         Some(error) => {
-            let kind = kind_of(&error.message);
+            let kind = kind_of(&error.message).number();
             format!("{kind}\t{}\t{}\t{}\n", error.span.start, error.span.end, error.message)
         }
     }
@@ -74,7 +74,7 @@ impl Vectors {
                 self.take(&text);
                 return Ok(());
             };
-            let mut faults = comparison.faults(&text);
+            let mut faults = comparison.faults(&text)?;
             let faulty = comparison.compare_first(&text, &tree, &faults)?.is_some();
             if may_be_first(&faults) == 1 {
                 self.take(&text);
