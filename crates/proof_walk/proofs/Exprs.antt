@@ -69,10 +69,6 @@ inner-outer (under d) = d .wide
 after-on : (w : List ℕ) (i : ℕ) → i < afterRow w i
 after-on w i = omega arith
 
--- one part alone
-one-row : (f : ℕ → List ℕ → List ℕ) (i stop : ℕ) (w : List ℕ) → i < stop → afterRow w i ≡ stop → rowsTo afterRow f i stop w ≡ f i w
-one-row f i stop w l e = rows-more afterRow f after-on i stop w l ∙ rows-end afterRow f (afterRow w i) stop (f i w) (omega arith)
-
 -- ---- the row of an expression, by its kind
 module _ (k : ℕ) (text : Bytes) (s : ScopeStack) (called : Bool) (i : ℕ) (w : List ℕ) (few : i < 4_096) where
   walk-on : walkExpr (suc k) text called s i w ≡ exprAt (walkExpr k text) (walkLine k text) text s called i w
@@ -89,7 +85,7 @@ module _ (k : ℕ) (text : Bytes) (s : ScopeStack) (called : Bool) (i : ℕ) (w 
   at-call e = walk-on ∙ rw e
 
   at-lambda : kindAt w i ≡ 28 → walkExpr (suc k) text called s i w
-      ≡ rowsTo afterRow (walkLine k text (pushedLambda s (afterRow w i))) (i + 1) (afterRow w i) (opened text (pushedLambda s (afterRow w i)) i (afterRow w i) w)
+      ≡ walkLine k text (pushedLambda s (afterRow w i)) (i + 1) (opened text (pushedLambda s (afterRow w i)) i (afterRow w i) w)
   unfolding exprAt
   at-lambda e = walk-on ∙ rw e
 
@@ -193,11 +189,9 @@ module _ {text : Bytes} {rows : List Row} {num : Bytes → ℕ} {ns : List Note}
         (row-params t h (subst ParamWord (sym (ok .0)) lambdaWord)) in
         let p′ = stands-in (lenE e) l p c b in
         let he : Here rows (suc r) (rowsE e) = here-tail h in
-        let d : suc r + lenE e ≡ end = omega arith in
         step-as
         (at-lambda k text s called r w (row-few t h) (row-kind t h ∙ ok .0)
-        ∙ ap₂ (λ i stop. rowsTo afterRow (walkLine k text (pushedLambda s stop)) i stop (opened text (pushedLambda s stop) r stop w)) (add-one r) (row-after t h)
-        ∙ one-row (walkLine k text (pushedLambda s end)) (suc r) end y (omega arith) (after-E (p′ .at .table) e he ∙ d)
+        ∙ ap₂ (λ i stop. walkLine k text (pushedLambda s stop) i (opened text (pushedLambda s stop) r stop w)) (add-one r) (row-after t h)
         ∙ ap (λ m. cond m (walkStmt k text (pushedLambda s end) (suc r) y) (walkExpr k text false (pushedLambda s end) (suc r) y)) (word-E (p′ .at .table) e he (ok .1 .1)))
         refl
         (step-out (lenE e) l p c b (expr-step e k (suc r) asValue he (ok .1 .1) (omega arith) p′ (around-in (lenE e) l p c b)))

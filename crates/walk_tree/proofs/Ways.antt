@@ -126,8 +126,7 @@ module _ (text : Bytes) (called : Bool) (s : ScopeStack) (i : ℕ) (w : List ℕ
       expr-kind k =
           cond (eqb k 17) (readOf s called (numberAt w i) i w)
           (cond (eqb k 21) (walkExprs (left - 1) text s (afterRow w (i + 1)) (afterRow w i) (walkExpr (left - 1) text true s (i + 1) w))
-          (cond (eqb k 28)
-          (walkStmts (left - 1) text (pushedLambda s (afterRow w i)) (i + 1) (afterRow w i) (opened text (pushedLambda s (afterRow w i)) i (afterRow w i) w))
+          (cond (eqb k 28) (walkLine (left - 1) text (pushedLambda s (afterRow w i)) (i + 1) (opened text (pushedLambda s (afterRow w i)) i (afterRow w i) w))
           (walkExprs (left - 1) text s (i + 1) (afterRow w i) w)))
 
       expr-in : walkExpr left text called s i w ≡ expr-kind (kindAt w i)
@@ -146,12 +145,12 @@ module _ (text : Bytes) (called : Bool) (s : ScopeStack) (i : ℕ) (w : List ℕ
         expr-call rest v z e p q r = rw (r, q, p, end) (sym (expr-by 21 e))
 
         pub expr-lambda : (inner : ScopeStack) (v z : List ℕ) → kindAt w i ≡ 28 → inner ≡ pushedLambda s stop → v ≡ opened text inner i stop w
-            → z ≡ walkStmts (left - 1) text inner (i + 1) stop v → z ≡ walkExpr left text called s i w
+            → z ≡ walkLine (left - 1) text inner (i + 1) v → z ≡ walkExpr left text called s i w
         expr-lambda inner v z e p q r =
             r
-            ∙ (ap (walkStmts (left - 1) text inner (i + 1) stop) q
-            ∙ (ap (λ t. walkStmts (left - 1) text t (i + 1) stop (opened text t i stop w)) p
-            ∙ (ap (λ j. walkStmts (left - 1) text (pushedLambda s j) (i + 1) j (opened text (pushedLambda s j) i j w)) end ∙ sym (expr-by 28 e))))
+            ∙ (ap (walkLine (left - 1) text inner (i + 1)) q
+            ∙ (ap (λ t. walkLine (left - 1) text t (i + 1) (opened text t i stop w)) p
+            ∙ (ap (λ j. walkLine (left - 1) text (pushedLambda s j) (i + 1) (opened text (pushedLambda s j) i j w)) end ∙ sym (expr-by 28 e))))
 
         pub expr-other : (z : List ℕ) → (kindAt w i ≡ 17 → ⊥) → (kindAt w i ≡ 21 → ⊥) → (kindAt w i ≡ 28 → ⊥)
             → z ≡ walkExprs (left - 1) text s (i + 1) stop w → z ≡ walkExpr left text called s i w

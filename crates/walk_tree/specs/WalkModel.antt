@@ -33,8 +33,7 @@ unfoldable pub exprAt : (Bool → ScopeStack → ℕ → List ℕ → List ℕ) 
 exprAt value line text s called i w =
     cond (eqb (kindAt w i) 17) (readOf s called (numberAt w i) i w)
     (cond (eqb (kindAt w i) 21) (rowsTo afterRow (value false s) (afterRow w (i + 1)) (afterRow w i) (value true s (i + 1) w))
-    (cond (eqb (kindAt w i) 28)
-    (rowsTo afterRow (line (pushedLambda s (afterRow w i))) (i + 1) (afterRow w i) (opened text (pushedLambda s (afterRow w i)) i (afterRow w i) w))
+    (cond (eqb (kindAt w i) 28) (line (pushedLambda s (afterRow w i)) (i + 1) (opened text (pushedLambda s (afterRow w i)) i (afterRow w i) w))
     (rowsTo afterRow (value false s) (i + 1) (afterRow w i) w)))
 
 -- a def or a method: 5, 14

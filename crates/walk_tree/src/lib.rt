@@ -82,7 +82,7 @@ fn walk_expr(text: &[u8], work: &mut [u32], left: usize, called: bool, s: ScopeS
         line_kind::LAMBDA => {
             let inner = s.push_lambda(stop);
             walk_blocks::enter_block(text, work, inner, i, stop);
-            walk_stmts(text, work, left - 1, inner, i + 1, stop)
+            walk_line(text, work, left - 1, inner, i + 1)
         }
         _ => walk_exprs(text, work, left - 1, s, i + 1, stop),
     }
@@ -166,7 +166,19 @@ fn walk_block(text: &[u8], work: &mut [u32], left: usize, s: ScopeStack, i: usiz
     walk_stmts(text, work, left, s, i + 1, s.end)
 }
 
-// A list of statements, which may have expressions before them.
+// A line of either sort: the body of a lambda.
+fn walk_line(text: &[u8], work: &mut [u32], left: usize, s: ScopeStack, i: usize)
+    requires { ⌜ (s .block ≤ 4096) × (s .end ≤ 16384) ⌝ }
+    ensures { λ _. ⌜ now (work .exit) ≡ walkLine left (now (text .entry)) s i (now (work .entry)) ⌝ }
+{
+    if work_rows::kind(work, i) < line_kind::LIT {
+        walk_stmt(text, work, left, s, i)
+    } else {
+        walk_expr(text, work, left, false, s, i)
+    }
+}
+
+// A list of statements, which may have expressions before them. Its test is its own, and not by `walk_line`: so it takes less stack.
 fn walk_stmts(text: &[u8], work: &mut [u32], left: usize, s: ScopeStack, first: usize, stop: usize)
     requires { ⌜ (stop ≤ 16384) × (s .block ≤ 4096) × (s .end ≤ 16384) ⌝ }
     ensures { λ _. ⌜ now (work .exit) ≡ walkStmts left (now (text .entry)) s first stop (now (work .entry)) ⌝ }

@@ -43,25 +43,28 @@ use borrow.Fn.Kinds.{In}
 use borrow.Fn.PlainCycle.{Measures, is, falls, and}
 use Rattle.walk_tree.proofs.walk_block.Reads as walk-block
 use Rattle.walk_tree.proofs.walk_block.Kinds as walk-block-kinds
-use Rattle.walk_tree.proofs.+walk_block+walk_expr+walk_exprs+walk_stmt+walk_stmts+walk_target+walk_targets.Lts-walk_block as walk-block-lts
+use Rattle.walk_tree.proofs.+walk_block+walk_expr+walk_exprs+walk_line+walk_stmt+walk_stmts+walk_target+walk_targets.Lts-walk_block as walk-block-lts
 use Rattle.walk_tree.proofs.walk_expr.Reads as walk-expr
 use Rattle.walk_tree.proofs.walk_expr.Kinds as walk-expr-kinds
-use Rattle.walk_tree.proofs.+walk_block+walk_expr+walk_exprs+walk_stmt+walk_stmts+walk_target+walk_targets.Lts-walk_expr as walk-expr-lts
+use Rattle.walk_tree.proofs.+walk_block+walk_expr+walk_exprs+walk_line+walk_stmt+walk_stmts+walk_target+walk_targets.Lts-walk_expr as walk-expr-lts
 use Rattle.walk_tree.proofs.walk_exprs.Reads as walk-exprs
 use Rattle.walk_tree.proofs.walk_exprs.Kinds as walk-exprs-kinds
-use Rattle.walk_tree.proofs.+walk_block+walk_expr+walk_exprs+walk_stmt+walk_stmts+walk_target+walk_targets.Lts-walk_exprs as walk-exprs-lts
+use Rattle.walk_tree.proofs.+walk_block+walk_expr+walk_exprs+walk_line+walk_stmt+walk_stmts+walk_target+walk_targets.Lts-walk_exprs as walk-exprs-lts
+use Rattle.walk_tree.proofs.walk_line.Reads as walk-line
+use Rattle.walk_tree.proofs.walk_line.Kinds as walk-line-kinds
+use Rattle.walk_tree.proofs.+walk_block+walk_expr+walk_exprs+walk_line+walk_stmt+walk_stmts+walk_target+walk_targets.Lts-walk_line as walk-line-lts
 use Rattle.walk_tree.proofs.walk_stmt.Reads as walk-stmt
 use Rattle.walk_tree.proofs.walk_stmt.Kinds as walk-stmt-kinds
-use Rattle.walk_tree.proofs.+walk_block+walk_expr+walk_exprs+walk_stmt+walk_stmts+walk_target+walk_targets.Lts-walk_stmt as walk-stmt-lts
+use Rattle.walk_tree.proofs.+walk_block+walk_expr+walk_exprs+walk_line+walk_stmt+walk_stmts+walk_target+walk_targets.Lts-walk_stmt as walk-stmt-lts
 use Rattle.walk_tree.proofs.walk_stmts.Reads as walk-stmts
 use Rattle.walk_tree.proofs.walk_stmts.Kinds as walk-stmts-kinds
-use Rattle.walk_tree.proofs.+walk_block+walk_expr+walk_exprs+walk_stmt+walk_stmts+walk_target+walk_targets.Lts-walk_stmts as walk-stmts-lts
+use Rattle.walk_tree.proofs.+walk_block+walk_expr+walk_exprs+walk_line+walk_stmt+walk_stmts+walk_target+walk_targets.Lts-walk_stmts as walk-stmts-lts
 use Rattle.walk_tree.proofs.walk_target.Reads as walk-target
 use Rattle.walk_tree.proofs.walk_target.Kinds as walk-target-kinds
-use Rattle.walk_tree.proofs.+walk_block+walk_expr+walk_exprs+walk_stmt+walk_stmts+walk_target+walk_targets.Lts-walk_target as walk-target-lts
+use Rattle.walk_tree.proofs.+walk_block+walk_expr+walk_exprs+walk_line+walk_stmt+walk_stmts+walk_target+walk_targets.Lts-walk_target as walk-target-lts
 use Rattle.walk_tree.proofs.walk_targets.Reads as walk-targets
 use Rattle.walk_tree.proofs.walk_targets.Kinds as walk-targets-kinds
-use Rattle.walk_tree.proofs.+walk_block+walk_expr+walk_exprs+walk_stmt+walk_stmts+walk_target+walk_targets.Lts-walk_targets as walk-targets-lts
+use Rattle.walk_tree.proofs.+walk_block+walk_expr+walk_exprs+walk_line+walk_stmt+walk_stmts+walk_target+walk_targets.Lts-walk_targets as walk-targets-lts
 use Rattle.walk_blocks.proofs.enter_block.Reads as enter-block-reads
 use Rattle.walk_blocks.proofs.reenter_block.Reads as reenter-block-reads
 use Rattle.walk_judge.proofs.judge_read.Reads as judge-read-reads
@@ -75,10 +78,10 @@ use Rattle.walk_scopes.proofs.ScopeStack.push.Reads as push-reads
 use Rattle.walk_scopes.proofs.ScopeStack.push_lambda.Reads as push-lambda-reads
 use Rattle.walk_tree.proofs.judge_method.Reads as judge-method-reads
 use Rattle.walk_tree.proofs.next_target.Reads as next-target-reads
-use Rattle.walk_tree.proofs.+walk_block+walk_expr+walk_exprs+walk_stmt+walk_stmts+walk_target+walk_targets.{
+use Rattle.walk_tree.proofs.+walk_block+walk_expr+walk_exprs+walk_line+walk_stmt+walk_stmts+walk_target+walk_targets.{
   statement,
 }
-use Rattle.walk_tree.proofs.+walk_block+walk_expr+walk_exprs+walk_stmt+walk_stmts+walk_target+walk_targets.Tie.{
+use Rattle.walk_tree.proofs.+walk_block+walk_expr+walk_exprs+walk_line+walk_stmt+walk_stmts+walk_target+walk_targets.Tie.{
   close,
 }
 
@@ -90,6 +93,9 @@ abbrev μ-walk-expr : Measures 2 walk-expr-kinds.ps ℕ
 
 abbrev μ-walk-exprs : Measures 2 walk-exprs-kinds.ps ℕ
 μ-walk-exprs κs a = 8 * (a .1 .1 .0) + 2
+
+abbrev μ-walk-line : Measures 2 walk-line-kinds.ps ℕ
+μ-walk-line κs a = 8 * (a .1 .1 .0) + 2
 
 abbrev μ-walk-stmt : Measures 2 walk-stmt-kinds.ps ℕ
 μ-walk-stmt κs a = 8 * (a .1 .1 .0) + 1
@@ -125,6 +131,13 @@ walk-exprs-at t =
 abbrev walk-exprs-below : ℕ → In 2 walk-exprs-kinds.ps
 walk-exprs-below t =
     and 2 walk-exprs-kinds.ps (falls 2 walk-exprs-kinds.ps _<_ μ-walk-exprs t) walk-exprs.Pre
+
+abbrev walk-line-at : ℕ → In 2 walk-line-kinds.ps
+walk-line-at t = and 2 walk-line-kinds.ps (is 2 walk-line-kinds.ps μ-walk-line t) walk-line.Pre
+
+abbrev walk-line-below : ℕ → In 2 walk-line-kinds.ps
+walk-line-below t =
+    and 2 walk-line-kinds.ps (falls 2 walk-line-kinds.ps _<_ μ-walk-line t) walk-line.Pre
 
 abbrev walk-stmt-at : ℕ → In 2 walk-stmt-kinds.ps
 walk-stmt-at t = and 2 walk-stmt-kinds.ps (is 2 walk-stmt-kinds.ps μ-walk-stmt t) walk-stmt.Pre
@@ -205,8 +218,8 @@ walk-expr-calls t = (
   push-lambda-reads.Learnt,
   enter-block-reads.Asked,
   enter-block-reads.Learnt,
-  walk-stmts-below t,
-  walk-stmts.Post,
+  walk-line-below t,
+  walk-line.Post,
 )
 
 walk-expr-returns : (t : ℕ) → walk-expr-lts.Need-returns (walk-expr-calls t) (walk-expr-at t) walk-expr.Post
@@ -260,17 +273,17 @@ walk-expr-open-requires t c κs =
     let p = c .before in
     omega (arith, scoped (p .push-lambda .ensures))
 
-walk-expr-sub-walk-stmts : (t : ℕ) → walk-expr-lts.Need-sub-walk-stmts (walk-expr-calls t) (walk-expr-at t) walk-expr.Post
-walk-expr-sub-walk-stmts t c = omega arith
+walk-expr-sub-walk-line : (t : ℕ) → walk-expr-lts.Need-sub-walk-line (walk-expr-calls t) (walk-expr-at t) walk-expr.Post
+walk-expr-sub-walk-line t c = omega arith
 
-walk-expr-add-walk-stmts : (t : ℕ) → walk-expr-lts.Need-add-walk-stmts (walk-expr-calls t) (walk-expr-at t) walk-expr.Post
-walk-expr-add-walk-stmts t c = omega arith
+walk-expr-add-walk-line : (t : ℕ) → walk-expr-lts.Need-add-walk-line (walk-expr-calls t) (walk-expr-at t) walk-expr.Post
+walk-expr-add-walk-line t c = omega arith
 
-walk-expr-walk-stmts-requires : (t : ℕ) → walk-expr-lts.Need-walk-stmts-requires (walk-expr-calls t) (walk-expr-at t) walk-expr.Post
-walk-expr-walk-stmts-requires t c κs =
+walk-expr-walk-line-requires : (t : ℕ) → walk-expr-lts.Need-walk-line-requires (walk-expr-calls t) (walk-expr-at t) walk-expr.Post
+walk-expr-walk-line-requires t c κs =
     let p = c .before .before .before .before .before in
     let o = p .before .before .before .before .before .before .before .before .before .before in
-    omega (arith, o .pre .0, o .pre .1, scoped (p .push-lambda .ensures))
+    omega (arith, o .pre .1, scoped (p .push-lambda .ensures))
 
 walk-expr-sub-walk-exprs-2 : (t : ℕ) → walk-expr-lts.Need-sub-walk-exprs-2 (walk-expr-calls t) (walk-expr-at t) walk-expr.Post
 walk-expr-sub-walk-exprs-2 t c = omega arith
@@ -320,7 +333,7 @@ walk-expr-same-length-3 : (t : ℕ) → walk-expr-lts.Need-same-length-3 (walk-e
 walk-expr-same-length-3 t c =
     let w = c .before .before in
     let o = w .before .before .before .before in
-    w .walk-stmts .kept .1 .0 ∙ o .enter-block .kept .1 .0
+    w .walk-line .kept .1 .0 ∙ o .enter-block .kept .1 .0
 
 walk-expr-returns-5 : (t : ℕ) → walk-expr-lts.Need-returns-5 (walk-expr-calls t) (walk-expr-at t) walk-expr.Post
 walk-expr-returns-5 t c =
@@ -333,7 +346,7 @@ walk-expr-returns-5 t c =
     let i = a₂ .before .before in
     let i₂ = i .before in
     expr-lambda _ _ _ _ _ _ (i₂ .if1 .left) (i .if2 .left) _ (a₂ .after-row .ensures .0) _ _ _ (sym (k .kind .ensures) ∙ m .match .keys3)
-    (p .push-lambda .ensures) (o .enter-block .ensures) (w .walk-stmts .ensures)
+    (p .push-lambda .ensures) (o .enter-block .ensures) (w .walk-line .ensures)
 
 walk-expr-same-length-4 : (t : ℕ) → walk-expr-lts.Need-same-length-4 (walk-expr-calls t) (walk-expr-at t) walk-expr.Post
 walk-expr-same-length-4 t c =
@@ -407,6 +420,39 @@ walk-exprs-returns t c =
     let a = l .before .before .before .args in
     sym (rows-end afterRow (walkExpr (a .left) (a .text .now) false (a .s)) (l .loop .at) (a .stop) (l .loop .work) (c .loop-test .left)) ∙
     l .loop .inv .1
+
+-- ---- walk_line
+abbrev walk-line-calls : ℕ → walk-line-lts.Claims
+walk-line-calls t = (kind-reads.Asked, kind-reads.Learnt, walk-stmt-below t, walk-stmt.Post, walk-expr-below t, walk-expr.Post)
+
+walk-line-kind-requires : (t : ℕ) → walk-line-lts.Need-kind-requires (walk-line-calls t) (walk-line-at t) walk-line.Post
+walk-line-kind-requires t c κs = tt
+
+walk-line-walk-stmt-requires : (t : ℕ) → walk-line-lts.Need-walk-stmt-requires (walk-line-calls t) (walk-line-at t) walk-line.Post
+walk-line-walk-stmt-requires t c κs = omega arith
+
+walk-line-walk-expr-requires : (t : ℕ) → walk-line-lts.Need-walk-expr-requires (walk-line-calls t) (walk-line-at t) walk-line.Post
+walk-line-walk-expr-requires t c κs = omega arith
+
+walk-line-same-length : (t : ℕ) → walk-line-lts.Need-same-length (walk-line-calls t) (walk-line-at t) walk-line.Post
+walk-line-same-length t c =
+    let w = c .before .before in
+    w .walk-stmt .kept .1 .0
+
+walk-line-returns : (t : ℕ) → walk-line-lts.Need-returns (walk-line-calls t) (walk-line-at t) walk-line.Post
+walk-line-returns t c =
+    let w = c .before .before in
+    line-stmt _ _ _ _ _ _ (omega arith) (w .walk-stmt .ensures)
+
+walk-line-same-length-2 : (t : ℕ) → walk-line-lts.Need-same-length-2 (walk-line-calls t) (walk-line-at t) walk-line.Post
+walk-line-same-length-2 t c =
+    let w = c .before .before in
+    w .walk-expr .kept .1 .0
+
+walk-line-returns-2 : (t : ℕ) → walk-line-lts.Need-returns-2 (walk-line-calls t) (walk-line-at t) walk-line.Post
+walk-line-returns-2 t c =
+    let w = c .before .before in
+    line-expr _ _ _ _ _ _ (omega arith) (w .walk-expr .ensures)
 
 -- ---- walk_stmt
 abbrev walk-stmt-calls : ℕ → walk-stmt-lts.Claims
@@ -969,13 +1015,14 @@ walk-targets-returns t c =
     (rows-end nextTarget (targetAt (walkExpr (a .left) (a .text .now) false (a .s)) (a .s)) (l .loop .at) (a .stop) (l .loop .work) (c .loop-test .left))
     ∙ l .loop .inv .1
 
-pub +walk-block+walk-expr+walk-exprs+walk-stmt+walk-stmts+walk-target+walk-targets-spec :
+pub +walk-block+walk-expr+walk-exprs+walk-line+walk-stmt+walk-stmts+walk-target+walk-targets-spec :
     {M : Type 1} → statement M
-+walk-block+walk-expr+walk-exprs+walk-stmt+walk-stmts+walk-target+walk-targets-spec =
++walk-block+walk-expr+walk-exprs+walk-line+walk-stmt+walk-stmts+walk-target+walk-targets-spec =
     close
     μ-walk-block
     μ-walk-expr
     μ-walk-exprs
+    μ-walk-line
     μ-walk-stmt
     μ-walk-stmts
     μ-walk-target
@@ -1006,9 +1053,9 @@ pub +walk-block+walk-expr+walk-exprs+walk-stmt+walk-stmts+walk-target+walk-targe
     (walk-expr-walk-exprs-requires t)
     (walk-expr-push-lambda-requires t)
     (walk-expr-open-requires t)
-    (walk-expr-sub-walk-stmts t)
-    (walk-expr-add-walk-stmts t)
-    (walk-expr-walk-stmts-requires t)
+    (walk-expr-sub-walk-line t)
+    (walk-expr-add-walk-line t)
+    (walk-expr-walk-line-requires t)
     (walk-expr-sub-walk-exprs-2 t)
     (walk-expr-add-walk-exprs t)
     (walk-expr-walk-exprs-requires-2 t)
@@ -1032,6 +1079,16 @@ pub +walk-block+walk-expr+walk-exprs+walk-stmt+walk-stmts+walk-target+walk-targe
     (walk-exprs-loop-again t)
     (walk-exprs-same-length t)
     (walk-exprs-returns t))
+    (λ t. walk-line-lts.spec (walk-line-calls t)
+    (walk-line-at t)
+    walk-line.Post
+    (walk-line-kind-requires t)
+    (walk-line-walk-stmt-requires t)
+    (walk-line-walk-expr-requires t)
+    (walk-line-same-length t)
+    (walk-line-returns t)
+    (walk-line-same-length-2 t)
+    (walk-line-returns-2 t))
     (λ t. walk-stmt-lts.spec (walk-stmt-calls t)
     (walk-stmt-at t)
     walk-stmt.Post
