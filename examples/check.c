@@ -24,7 +24,7 @@ enum { ACCEPTED = 0, FAULTS = 1, REFUSED = 2 };
 
 /* One byte more than may be: a longer text is so refused by the library, a longer script here. */
 static uint8_t text[SERDUZHAP_LONGEST_TEXT + 1], script[LONGEST_SCRIPT + 1];
-static uint32_t work[SERDUZHAP_WORK], records[SERDUZHAP_MOST_FAULTS * SERDUZHAP_RECORD];
+static uint32_t work[SERDUZHAP_WORK], records[SERDUZHAP_LONGEST_REPORT];
 
 /* Refusals 1 to 7 in words, and first what is said to any other number: the buffers here are long enough for all. */
 static const char *const refusals[] = {
@@ -134,7 +134,7 @@ static int print_refusal(const char *text_name, const uint32_t answer[SERDUZHAP_
 /* Reports once, and prints each fault from its record. */
 static int check(const char *text_name, size_t text_len, const char *script_name, size_t script_len) {
     uint32_t answer[SERDUZHAP_REPORT_ANSWER];
-    serduzhap_report(text, text_len, work, SERDUZHAP_WORK, records, SERDUZHAP_MOST_FAULTS * SERDUZHAP_RECORD, answer);
+    serduzhap_report(text, text_len, work, SERDUZHAP_WORK, records, SERDUZHAP_LONGEST_REPORT, answer);
     if (answer[SERDUZHAP_AT_NUMBER] != SERDUZHAP_WRITTEN) {
         return print_refusal(text_name, answer);
     }

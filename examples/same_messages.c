@@ -10,7 +10,7 @@
 #include "serduzhap.h"
 
 static uint8_t text[SERDUZHAP_LONGEST_TEXT + 1];
-static uint32_t work[SERDUZHAP_WORK], records[SERDUZHAP_MOST_FAULTS * SERDUZHAP_RECORD];
+static uint32_t work[SERDUZHAP_WORK], records[SERDUZHAP_LONGEST_REPORT];
 
 /* How many texts and messages were compared, and how often each kind of fault came. */
 static size_t texts, messages, kinds[SERDUZHAP_METHOD_WITHOUT_SELF + 1];
@@ -18,7 +18,7 @@ static size_t texts, messages, kinds[SERDUZHAP_METHOD_WITHOUT_SELF + 1];
 /* The number of faults of a text; none where it is refused. */
 static size_t faults_of(size_t text_len) {
     uint32_t answer[SERDUZHAP_REPORT_ANSWER];
-    serduzhap_report(text, text_len, work, SERDUZHAP_WORK, records, SERDUZHAP_MOST_FAULTS * SERDUZHAP_RECORD, answer);
+    serduzhap_report(text, text_len, work, SERDUZHAP_WORK, records, SERDUZHAP_LONGEST_REPORT, answer);
     return answer[SERDUZHAP_AT_NUMBER] == SERDUZHAP_WRITTEN ? answer[SERDUZHAP_AT_COUNT] : 0;
 }
 

@@ -59,7 +59,7 @@ private:
     }
 
     std::vector<std::uint32_t> work_ = std::vector<std::uint32_t>(SERDUZHAP_WORK);
-    std::vector<std::uint32_t> records_ = std::vector<std::uint32_t>(SERDUZHAP_MOST_FAULTS * SERDUZHAP_RECORD);
+    std::vector<std::uint32_t> records_ = std::vector<std::uint32_t>(SERDUZHAP_LONGEST_REPORT);
 };
 
 // The message of a fault in the words of docs/FORMAT.md, as serduzhap_message writes it.

@@ -11,7 +11,8 @@
  *   0; an answer is never null.
  * - Text, work, output and answer do not overlap, and nobody else writes them, or reads what is written, during a call.
  * - There is stack enough: @ref SERDUZHAP_STACK bytes on x86-64; docs/TARGETS.md has the other targets.
- * - memcpy, memmove and memset are there to be linked. Nothing else is called, nothing is allocated.
+ * - memcpy, memmove and memset are there to be linked; not every target needs all three. Nothing else is called, and
+ *   nothing is allocated.
  *
  * Nothing is kept between calls, so calls may run at the same time on different buffers. Each call does the whole check
  * again: for the messages of many faults take the report once, and build them from the records.
@@ -28,6 +29,8 @@ extern "C" {
 #endif
 
 /** @name The version that this header is of
+ * A library of the same major number and no lower minor number has every call and number of this header, and answers
+ * as it says.
  * @{ */
 #define SERDUZHAP_VERSION_MAJOR 1
 #define SERDUZHAP_VERSION_MINOR 0
@@ -35,7 +38,7 @@ extern "C" {
 /** @} */
 
 /** @name The first number of an answer
- * 0 is none of them: an answer that is all zeros was not written by a call.
+ * 0 is none of them: an answer that is all zeros was written by none of the calls over a text.
  * @{ */
 #define SERDUZHAP_ACCEPTED 100 /**< check: the text is a tree of which the rule holds. Nothing else has this number. */
 #define SERDUZHAP_WRITTEN 101  /**< report, message: with the number of records or bytes that were written */
@@ -58,7 +61,7 @@ extern "C" {
 #define SERDUZHAP_INVALID_TARGET 14
 #define SERDUZHAP_METHOD_WITHOUT_SELF 15
 
-#define SERDUZHAP_OUTPUT_TOO_SHORT 16 /**< report: the output has under 7 numbers for each fault; with the count of faults */
+#define SERDUZHAP_OUTPUT_TOO_SHORT 16 /**< report: under 7 numbers for each fault; with the count of faults */
 #define SERDUZHAP_NO_SUCH_FAULT 17    /**< message: there is no fault i */
 #define SERDUZHAP_MESSAGE_TOO_LONG 18 /**< message: the message is longer than the output */
 /** @} */
@@ -74,7 +77,7 @@ extern "C" {
 
 /** @name What stands where in an answer
  * @{ */
-#define SERDUZHAP_AT_NUMBER 0 /**< in all: the number above */
+#define SERDUZHAP_AT_NUMBER 0 /**< of each call over a text: a number above */
 #define SERDUZHAP_AT_LINE 1   /**< 1 to 7: the line */
 #define SERDUZHAP_AT_COUNT 1  /**< SERDUZHAP_WRITTEN, 16: the count */
 #define SERDUZHAP_AT_OFFSET 1 /**< SERDUZHAP_PART: the offset in the text */
@@ -95,13 +98,14 @@ extern "C" {
 
 /** @name Sizes
  * @{ */
-#define SERDUZHAP_WORK 16384          /**< numbers of the work buffer, at least */
-#define SERDUZHAP_RECORD 7            /**< numbers of a record */
-#define SERDUZHAP_MOST_FAULTS 4096    /**< no text has more faults: an output of 7 times as many numbers holds every report */
-#define SERDUZHAP_LONGEST_TEXT 65536  /**< bytes; a longer text is refused */
-#define SERDUZHAP_LONGEST_NAME 63     /**< bytes */
-#define SERDUZHAP_LONGEST_MESSAGE 183 /**< bytes: no message is longer */
-#define SERDUZHAP_STACK 49152         /**< bytes of stack that any call takes at most, on x86-64 */
+#define SERDUZHAP_WORK 16384           /**< numbers of the work buffer, at least */
+#define SERDUZHAP_RECORD 7             /**< numbers of a record */
+#define SERDUZHAP_MOST_FAULTS 4096     /**< no text has more */
+#define SERDUZHAP_LONGEST_REPORT 28672 /**< numbers that hold any report: 7 times 4,096 */
+#define SERDUZHAP_LONGEST_TEXT 65536   /**< bytes; a longer text is refused */
+#define SERDUZHAP_LONGEST_NAME 63      /**< bytes */
+#define SERDUZHAP_LONGEST_MESSAGE 183  /**< bytes: no message is longer */
+#define SERDUZHAP_STACK 26624          /**< bytes of stack that any call takes at most, on x86-64 */
 /** @} */
 
 /**
@@ -122,7 +126,7 @@ void serduzhap_report(const uint8_t *text, uint64_t text_len, uint32_t *work, ui
                       uint64_t out_len, uint32_t answer[SERDUZHAP_REPORT_ANSWER]);
 
 /**
- * Writes the message of fault i to out: bytes, with no 0 at their end. Faults are counted from 0, in the report's order.
+ * Writes the message of fault i to out: bytes, with no 0 at their end. Faults count from 0, in the report's order.
  *
  * Answer: SERDUZHAP_WRITTEN and the number of bytes; or 1 to 7 and a line; or SERDUZHAP_NO_SUCH_FAULT; or
  * SERDUZHAP_MESSAGE_TOO_LONG.

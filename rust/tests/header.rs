@@ -28,6 +28,7 @@ fn here() -> BTreeMap<&'static str, u64> {
         ("WORK", serduzhap::WORK),
         ("RECORD", serduzhap::RECORD),
         ("MOST_FAULTS", serduzhap::MOST_FAULTS),
+        ("LONGEST_REPORT", serduzhap::LONGEST_REPORT),
         ("LONGEST_TEXT", serduzhap::LONGEST_TEXT),
         ("LONGEST_NAME", serduzhap::LONGEST_NAME),
         ("LONGEST_MESSAGE", serduzhap::LONGEST_MESSAGE),

@@ -1,10 +1,10 @@
 #!/usr/bin/env python3
 """Builds the library for boards from the proved code's own LLVM IR, and runs it there. Python 3.11, no other library.
 
-    targets/run [NAME..]            builds, replays, computes the stack; prints the tables. NAME: x86-64, thumbv7em, ..
-    targets/run --frames [NAME..]   prints the functions with the largest frames too, and the deepest chain of calls
-    targets/run --write             writes the tables to docs/TARGETS.md
-    targets/run --check             whether docs/TARGETS.md has these tables
+    targets/make.py [NAME..]            builds, replays, computes the stack; prints the tables. NAME: x86-64, thumbv7em, ..
+    targets/make.py --frames [NAME..]   prints the functions with the largest frames too, and the deepest chain of calls
+    targets/make.py --write             writes the tables to docs/TARGETS.md
+    targets/make.py --check             whether docs/TARGETS.md has these tables
 
 For each target the replay, a C program with no library beside it (replay.c), is linked with the library and has to
 write the same bytes as crates/test_calls on its frames, and the same as on x86-64 on random, damaged and deep texts.
@@ -181,7 +181,7 @@ def paged(made: dict[str, list[str]], write: bool) -> None:
     for name, rows in made.items():
         page, shown = on_page(page, name, rows if write else None)
         if not write and shown != rows:
-            raise Failed('docs/TARGETS.md: its table %s is another; targets/run --write writes it' % name)
+            raise Failed('docs/TARGETS.md: its table %s is another; targets/make.py --write writes it' % name)
     if write:
         PAGE.write_text(page)
 
