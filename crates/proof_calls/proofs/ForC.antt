@@ -32,14 +32,14 @@ first-other : (fs : List Fault) → All FromEight fs → number (seven (firstRec
 first-other [] h m = omega arith
 first-other (f ∷ fs) (also h r) m = omega (arith, h .least, m)
 
-first-numbered : (fs : List Fault) → All FromEight fs → Numbered 100 (seven (firstRecord fs))
+first-numbered : (fs : List Fault) → All FromEight fs → Numbered 100 15 (seven (firstRecord fs))
 first-numbered [] h = inl refl
-first-numbered (f ∷ fs) (also h r) = inr (omega (arith, h .least), omega (arith, h .most))
+first-numbered (f ∷ fs) (also h r) = inr (omega (arith, h .least), h .most)
 
 module _ (text : Bytes) (work : ℕ) where
   -- a refusal's number
-  refusal-numbered : (i : ℕ) {k n : ℕ} (vs : List ℕ) → reading text work ≡ refusal k n → Numbered i (k ∷ vs)
-  refusal-numbered i vs e = let l = refusal-range text work e in inr (l .0, omega (arith, l .1))
+  refusal-numbered : (i last : ℕ) {k n : ℕ} (vs : List ℕ) → 7 ≤ last → reading text work ≡ refusal k n → Numbered i last (k ∷ vs)
+  refusal-numbered i last vs m e = let l = refusal-range text work e in inr (l .0, omega (arith, m, l .1))
 
   number-accepted : (x : Reading) → reading text work ≡ x → number (seven (checkOf x)) ≡ 100 → accepted ≡ checkOf x
   number-accepted (tree t) d e = first-accepted (faults t) (kinds t) e
@@ -49,9 +49,9 @@ module _ (text : Bytes) (work : ℕ) where
   number-refused (tree t) {k} a b m = absurd (first-other (faults t) (kinds t) (subst (λ i. i ≤ 7) (sym a) m))
   number-refused (refusal j i) a b m = cc
 
-  check-numbered : (x : Reading) → reading text work ≡ x → Numbered 100 (seven (checkOf x))
+  check-numbered : (x : Reading) → reading text work ≡ x → Numbered 100 15 (seven (checkOf x))
   check-numbered (tree t) d = first-numbered (faults t) (kinds t)
-  check-numbered (refusal k n) d = refusal-numbered 100 (n ∷ 0 ∷ 0 ∷ 0 ∷ 0 ∷ 0 ∷ []) d
+  check-numbered (refusal k n) d = refusal-numbered 100 15 (n ∷ 0 ∷ 0 ∷ 0 ∷ 0 ∷ 0 ∷ []) (omega arith) d
 
   pub passed-c : (r : List ℕ) → r ≡ answerOf 7 (check text work) → PassedC text work r
   passed-c r h =
@@ -64,15 +64,15 @@ module _ (text : Bytes) (work : ℕ) where
           λ e. (a ∙ ap (λ y. number (seven (checkOf y))) e, b ∙ ap (λ y. value (seven (checkOf y))) e, refusal-range text work e .0, refusal-range text work e .1),
           λ p. number-refused x (sym a ∙ p .0) (sym b ∙ p .1) (p .3),
         );
-        kinds = subst (Numbered 100) (sym h) (check-numbered x refl);
+        kinds = subst (Numbered 100 15) (sym h) (check-numbered x refl);
       }
 
   -- ---- what a report or a message is, in numbers
   none-written : {k n : ℕ} → reading text work ≡ refusal k n → count (k ∷ n ∷ []) ≡ 0
   none-written {k} {n} e = ap (λ b. cond b n 0) (ne-eqb k 101 (λ d. omega (arith, refusal-range text work e .1, d)))
 
-  report-numbered : {out : ℕ} {x : Reading} {o : Outcome} → reading text work ≡ x → Report out x o → Numbered 101 (answerOf 2 (o .answer))
-  report-numbered e (report-refused {k} {n}) = refusal-numbered 101 (n ∷ []) e
+  report-numbered : {out : ℕ} {x : Reading} {o : Outcome} → reading text work ≡ x → Report out x o → Numbered 101 16 (answerOf 2 (o .answer))
+  report-numbered e (report-refused {k} {n}) = refusal-numbered 101 16 (n ∷ []) (omega arith) e
   report-numbered e (too-short h) = inr (omega arith, omega arith)
   report-numbered e (report-written h) = inl refl
 
@@ -81,8 +81,8 @@ module _ (text : Bytes) (work : ℕ) where
   report-count e (too-short h) = refl
   report-count e (report-written h) = refl
 
-  message-numbered : {i out : ℕ} {x : Reading} {o : Outcome} → reading text work ≡ x → Message i out x o → Numbered 101 (answerOf 2 (o .answer))
-  message-numbered e (message-refused {k} {n}) = refusal-numbered 101 (n ∷ []) e
+  message-numbered : {i out : ℕ} {x : Reading} {o : Outcome} → reading text work ≡ x → Message i out x o → Numbered 101 18 (answerOf 2 (o .answer))
+  message-numbered e (message-refused {k} {n}) = refusal-numbered 101 18 (n ∷ []) (omega arith) e
   message-numbered e (no-fault h) = inr (omega arith, omega arith)
   message-numbered e (too-long d h) = inr (omega arith, omega arith)
   message-numbered e (message-written d h) = inl refl
@@ -111,7 +111,7 @@ one-report-c text work old old′ new new′ r r′ e a b =
     let l : length (o .writes) ≡ recordLength * count r =
     report-counts p ∙ ap (λ n. recordLength * n) (report-count text work refl p ∙ sym (ap count (a .0))) in
     record {
-      kinds = subst (Numbered 101) (sym (a .0)) (report-numbered text work refl p);
+      kinds = subst (Numbered 101 16) (sym (a .0)) (report-numbered text work refl p);
       answer = a .0 ∙ sym (b .0 ∙ ap (λ (o : Outcome). answerOf 2 (o .answer)) w);
       writes = alike o old old′ l (a .1) (b .1 ∙ ap (λ (o : Outcome). over (o .writes) old′) w);
     }
@@ -126,7 +126,7 @@ one-message-c text work i old old′ new new′ r r′ e a b =
     let p = message-by i (length old) (reading text work) in
     let l : length (o .writes) ≡ count r = message-counts p ∙ (message-count text work refl p ∙ sym (ap count (a .0))) in
     record {
-      kinds = subst (Numbered 101) (sym (a .0)) (message-numbered text work refl p);
+      kinds = subst (Numbered 101 18) (sym (a .0)) (message-numbered text work refl p);
       answer = a .0 ∙ sym (b .0 ∙ ap (λ (o : Outcome). answerOf 2 (o .answer)) w);
       writes = alike o old old′ l (a .1) (b .1 ∙ ap (λ (o : Outcome). over (o .writes) old′) w);
     }

@@ -18,27 +18,27 @@ number r = getD r 0 0
 abbrev pub value : List ℕ → ℕ
 value r = getD r 1 0
 
--- an answer's number is k or that of a refusal or a fault, 1 to 18: it is never 0, and never 100 but for check
-abbrev pub Numbered : ℕ → List ℕ → Type 0
-Numbered k r = (number r ≡ k) ⊎ ((1 ≤ number r) × (number r ≤ 18))
+-- an answer's number is k, or from 1 to the last one of a refusal or a fault: never 0
+abbrev pub Numbered : ℕ → ℕ → List ℕ → Type 0
+Numbered k last r = (number r ≡ k) ⊎ ((1 ≤ number r) × (number r ≤ last))
 
 -- 100 exactly when the text passes; 1 to 7 with the line exactly when it is refused so; else the kind of a fault
 pub record PassedC (text : Bytes) (work : ℕ) (r : List ℕ) : Type 0 where
   pub accepted : (number r ≡ 100) ↔ Passes text work
   pub refused : (k n : ℕ) → (reading text work ≡ refusal k n) ↔ ((number r ≡ k) × (value r ≡ n) × (1 ≤ k) × (k ≤ 7))
-  pub kinds : Numbered 100 r
+  pub kinds : Numbered 100 15 r
 
 -- what a call wrote: so many records or bytes, if its number is 101
 abbrev pub count : List ℕ → ℕ
 count r = cond (eqb (number r) 101) (value r) 0
 
--- two calls on one text, with buffers of the same lengths
+-- two calls on one text, with buffers of the same lengths; neither answers with 100
 pub record SameReportC (new new′ : List ℕ) (r r′ : List ℕ) : Type 0 where
-  pub kinds : Numbered 101 r
+  pub kinds : Numbered 101 16 r
   pub answer : r ≡ r′
   pub writes : take (recordLength * count r) new ≡ take (recordLength * count r) new′
 
 pub record SameMessageC (new new′ : Bytes) (r r′ : List ℕ) : Type 0 where
-  pub kinds : Numbered 101 r
+  pub kinds : Numbered 101 18 r
   pub answer : r ≡ r′
   pub writes : take (count r) new ≡ take (count r) new′
