@@ -3,7 +3,8 @@
 use Prim.Native.Nat.{ℕ, _≤_, _<_}
 use native.Mathlib.Omega.{arith}
 use mathlib.Core.Path.{_≡_, refl, sym, ap, subst}
-use mathlib.Core.List.{List}
+use mathlib.Core.Bool.{false}
+use mathlib.Core.List.{List, []}
 use lib.ListN.{length}
 use Rattle.spec_text.specs.Bytes.{Bytes}
 use Rattle.spec_text.specs.Tree.{Tree, lenSs}
@@ -24,9 +25,9 @@ use Rattle.proof_walk.specs.Table.{Table}
 use Rattle.proof_walk.specs.Slots.{slotsFrom, keys}
 use Rattle.proof_walk.proofs.PartRows.{table-kept}
 use Rattle.proof_walk.proofs.Theorems.{walked-slots, walked-kept}
-use Rattle.report_order.specs.OrderModel.{entries, stored}
+use Rattle.report_order.specs.OrderModel.{entries, stored, anyFault}
 use Rattle.proof_order.specs.Shown.{Shows, Pairs, lineIn}
-use Rattle.proof_order.proofs.Theorems.{found, entries-shown}
+use Rattle.proof_order.proofs.Theorems.{found, entries-shown, entries-none}
 use Rattle.find_faults.specs.Found.{Listed, Finds}
 use Rattle.find_faults.specs.declared.Answer.the-variants as A
 use Rattle.find_faults.proofs.RowsForWalk.{numbers, numbers-rows, globals-named, table-held, no-lambdas}
@@ -95,6 +96,9 @@ module _ (text : Bytes) (work : ℕ) (t : Tree) (e : reading text work ≡ tree 
       → Finds text (tree t) z (A.Faults m)
   finds-by i j walk list count = rw (count, list, walk, i, j) finds
 
+  none-by : {g n : ℕ} {v : List ℕ} → g ≡ length (t .globals) → n ≡ length (rowsT t) → v ≡ walked text g n w → anyFault v g n ≡ false → entries v g n ≡ []
+  none-by i j walk = rw (walk, i, j) (entries-none t (table-kept kept table) worded)
+
 -- ---- by the reader's answer
 -- the answer with so many globals and lines is that of a tree
 record TreeRead (text : Bytes) (x : Reading) (w : List ℕ) (g n : ℕ) : Type 0 where
@@ -120,11 +124,22 @@ module _ (text : Bytes) (work : ℕ) {w : List ℕ} {g n : ℕ} (a : Answers tex
       let l = tree-lines text work (r .tree′) (r .is) in
       (omega (arith, r .globals), omega (arith, r .lines, rows-length (r .tree′)))
 
+  pub tree-room : 16_384 ≤ length w
+  tree-room = tree-read text (reading text work) a .holds .names .room
+
   pub finds-faults : Words w → {v z : List ℕ} {m : ℕ} → v ≡ walked text g n w → z ≡ stored (entries v g n) 0 v → m ≡ length (entries v g n)
       → Finds text (reading text work) z (A.Faults m)
   finds-faults words {v} {z} {m} walk list count =
       let r = tree-read text (reading text work) a in
       subst (λ x. Finds text x z (A.Faults m)) (sym (r .is)) (finds-by text work (r .tree′) (r .is) w (r .holds) words (r .globals) (r .lines) walk list count)
+
+  -- where no slot has a fault, there is nothing to list
+  pub finds-none : Words w → {v : List ℕ} → v ≡ walked text g n w → anyFault v g n ≡ false → Finds text (reading text work) v (A.Faults 0)
+  unfolding stored
+  finds-none words {v} walk e =
+      let r = tree-read text (reading text work) a in
+      let q : entries v g n ≡ [] = none-by text work (r .tree′) (r .is) w (r .holds) words (r .globals) (r .lines) walk e in
+      finds-faults words walk (ap (λ es. stored es 0 v) (sym q)) (ap length (sym q))
 
 pub finds-refusal : (text : Bytes) (x : Reading) {w v : List ℕ} {k n : ℕ} → Answers text x w (R.Refused k n) → Finds text x v (A.Refused k n)
 finds-refusal text (tree t) {k} {n} a =

@@ -15,13 +15,16 @@ pub enum Answer {
     Refused { number: usize, line: usize },
 }
 
-// Reads the tree, walks it, and lists its faults.
+// Reads the tree, walks it, and lists its faults, if there are any.
 pub fn find(text: &[u8], work: &mut [u32]) -> Answer
     ensures { λ r. ⌜ Finds (now (text .entry)) (reading (now (text .entry)) (length (now (work .entry)))) (now (work .exit)) r ⌝ }
 {
     match read_tree::read_tree(text, work) {
         Read::Tree { globals, lines } => {
             walk_tree::walk(text, work, globals, lines);
+            if !report_order::any_fault(work, globals, lines) {
+                return Answer::Faults { count: 0 };
+            }
             Answer::Faults {
                 count: report_order::list_faults(work, globals, lines),
             }

@@ -19,7 +19,7 @@ use Rattle.work_rows.specs.Rows.{Row}
 use Rattle.read_tree.specs.Laid.{noRow}
 use Rattle.proof_walk.specs.Slots.{Key, keyOf, slotsFrom, keys}
 use Rattle.report_order.specs.declared.Around.{Around}
-use Rattle.report_order.specs.OrderModel.{entry, slotIn, captured, captures, called, itself, newLambda, around, placedAt, entriesFrom}
+use Rattle.report_order.specs.OrderModel.{entry, slotIn, captured, captures, called, itself, newLambda, around, placedAt, entriesFrom, anySlot}
 use Rattle.proof_order.specs.Shown.{Shows, Pairs}
 use Rattle.proof_order.proofs.Reach.{wordIn, endIn, Free}
 use Rattle.proof_order.proofs.Right.{Outer, Way, atRow, atCall, atLambda, inClass, Right}
@@ -46,6 +46,17 @@ slotted w (suc m) i fs l e = go (slotAt w i) refl fs e (λ gs. slotted w m (suc 
         let a : _≡_ {A = Key} (record { line = suc (suc i); kind = suc k }) (record { line = f .line; kind = f .kind }) = cc in
         let b : slotsFrom w (suc i) m ≡ keys fs = cc in
         held (sym (ap (λ (x : Key). x .line) a)) (here ∙ q ∙ ap (λ (x : Key). x .kind) a) (more fs b)
+
+-- where no slot has a fault, they are those of none
+pub no-slots : (w : List ℕ) (m i : ℕ) → anySlot w m i ≡ false → slotsFrom w i m ≡ keys []
+unfolding anySlot
+no-slots w zero i e = refl
+no-slots w (suc m) i e = go (slotAt w i) e (no-slots w m (suc i))
+  where
+    go : (k : ℕ) → cond (eqb k 0) (anySlot w m (i + 1)) true ≡ false → (anySlot w m (suc i) ≡ false → slotsFrom w (suc i) m ≡ [])
+        → keyOf (suc (suc i)) k ++ slotsFrom w (suc i) m ≡ []
+    go zero e more = more (rw add-one at e)
+    go (suc k) e more = absurd (false≢true (sym e ∙ rw (ne-eqb (suc k) 0 (λ q. omega arith))))
 
 -- ---- what is around
 -- of the rows of the word k before row p: where p is before `end`, one of them reaches to `end`; the outermost over p is `top`, and ends there

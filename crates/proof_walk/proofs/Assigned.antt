@@ -15,6 +15,7 @@ use Rattle.spec_faults.specs.Rust.{collect-locals, collect-locals-of, collect-l
 use Rattle.spec_faults.proofs.Lists.{mem-append, any-append, All, none, also, all-append, all-map}
 use Rattle.spec_faults.proofs.ListingWalk.{State, assigning, afterT, afterTs, afterS, afterSs}
 use Rattle.work_marks.specs.MarksModel.{never}
+use Rattle.proof_walk.proofs.Noted.{Later}
 use Rattle.proof_walk.specs.Notes.{Note, note, notesT, notesTs, notesS, notesSs, notesD, noteOf, assignedBy}
 
 -- ---- a def's own names are the locals that the Rust gathers
@@ -313,14 +314,14 @@ def-body l b i m e = record { early = e; by = λ x r p q. any-append _ (map (not
     go x r p [] = refl
     go x r p (y ∷ ps) = ap₂ (λ t u. t && same x (y .bytes) || u) (le-leb (suc i) r p) (go x r p ps)
 
--- no note has a row after `never`
-pub low-d : (l : Line) (b : Stmts) (i : ℕ) → suc i + lenSs b < never → All (λ (n : Note). n .from ≤ never) (notesD l b i)
-low-d l b i p = all-append (params (l .params)) (all-map (λ n g. high n (g .high)) (range-ss b i (suc i) (suc i + lenSs b) (omega arith) (omega arith) p))
+-- each note has a row after the def's, and none after `never`
+pub later-d : (l : Line) (b : Stmts) (i : ℕ) → suc i + lenSs b < never → All (Later i) (notesD l b i)
+later-d l b i p = all-append (params (l .params)) (all-map (λ n g. record { low = g .low; high = high n (g .high) }) (range-ss b i (suc i) (suc i + lenSs b) (omega arith) (omega arith) p))
   where
     high : (n : Note) → (n .from ≤ suc i + lenSs b) ⊎ (n .from ≡ never) → n .from ≤ never
     high n (inl q) = omega arith
     high n (inr e) = omega arith
 
-    params : (ps : List Part) → All (λ (n : Note). n .from ≤ never) (map (note (suc i)) ps)
+    params : (ps : List Part) → All (Later i) (map (note (suc i)) ps)
     params [] = none
-    params (y ∷ ps) = also {a = note (suc i) y} (omega arith) (params ps)
+    params (y ∷ ps) = also {a = note (suc i) y} (record { low = omega arith; high = omega arith }) (params ps)

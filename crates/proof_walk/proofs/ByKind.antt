@@ -20,7 +20,7 @@ use Rattle.walk_scopes.specs.ScopesModel.{aDef, aMethod, module′, pushed, def
 use Rattle.walk_scopes.specs.declared.ScopeStack.{ScopeStack}
 use Rattle.read_row.specs.RowModel.{paramsOf}
 use Rattle.read_row.specs.Worded.{WordedS}
-use Rattle.walk_blocks.specs.BlocksModel.{opened, reopened}
+use Rattle.walk_blocks.specs.BlocksModel.{opened}
 use Rattle.walk_tree.specs.WalkModel.{nextTarget, targetAt, stmtAt, blockAt, methodAt, walkExpr, walkStmt, walkLine}
 use Rattle.proof_walk.specs.Table.{Table, Here}
 use Rattle.proof_walk.proofs.PartRows.{row-kind}
@@ -83,7 +83,7 @@ module _ (text : Bytes) (k : ℕ) (s : ScopeStack) (i : ℕ) (w : List ℕ) (few
   at-for c m p a q = rw (lt-leb rowsMost i few, c, after, add-one i, p, q) refl
 
   pub at-def : kindAt w i ≡ 5 → (a : ℕ) → numberAt w i ≡ a
-      → walkStmt (suc k) text s i w ≡ reopened text s (kids text k (pushed s aDef i e) e (suc i) (opened text (pushed s aDef i e) i e (defined s w a)))
+      → walkStmt (suc k) text s i w ≡ kids text k (pushed s aDef i e) e (suc i) (opened text (pushed s aDef i e) i e (defined s w a))
   unfolding walkStmt stmtAt blockAt
   at-def c a q = rw (lt-leb rowsMost i few, c, after, q, add-one i) refl
 

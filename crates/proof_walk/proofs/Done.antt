@@ -1,27 +1,27 @@
 -- What the walk of some rows does outside of lambdas, and how one such walk follows another: rows without a fault, a name that is bound, a row
--- with a fault. Marks are only raised, slots before the rows stay, and so do the stamps of all defs but the one around.
+-- with a fault. Marks are only raised, and slots before the rows stay, and flags after them.
 use Prim.Native.Nat.{ℕ, zero, suc, _+_, _-_, _/_, _≤_, _<_, max}
 use native.Mathlib.Omega.{arith}
 use mathlib.Core.Path.{_≡_, refl, sym, ap, ap₂, _∙_, subst}
 use mathlib.Core.Bool.{Bool, true, false, _||_, true≢false}
 use mathlib.Core.List.{List, [], _∷_, _++_, map-append}
-use lib.ListN.{length}
+use lib.ListN.{length, getD}
 use Rattle.spec_text.specs.Bytes.{Bytes, Part, mem, same}
 use Rattle.spec_text.proofs.Lists.{same-eq, same-false}
 use Rattle.spec_faults.specs.Faults.{Fault, capture}
 use Rattle.spec_faults.proofs.ListingWalk.{Env}
 use Rattle.spec_faults.proofs.Deduped.{dedupe, seenAfter, seen-append, dedupe-append}
 use Rattle.work_rows.specs.Rows.{Row}
-use Rattle.work_marks.specs.MarksModel.{lambdaEnd, blockEnd, slotAt, stampAt, putSlot, raisedBlock}
-use Rattle.work_marks.proofs.Writes.{Words, Kept, kept-refl, kept-trans, slot-same, slot-other, slot-lambda, slot-block, slot-stamp, kept-slot, words-slot, raised-block-same, raised-block-other, raised-block-lambda, raised-block-slot, raised-block-stamp, kept-raised-block, words-raised-block}
+use Rattle.work_marks.specs.MarksModel.{stampBase, lambdaEnd, blockEnd, slotAt, flagAt, putSlot, raisedBlock}
+use Rattle.work_marks.proofs.Writes.{Words, Kept, kept-refl, kept-trans, slot-same, slot-other, slot-lambda, slot-block, slot-fourth, kept-slot, words-slot, raised-block-same, raised-block-other, raised-block-lambda, raised-block-slot, raised-block-fourth, kept-raised-block, words-raised-block}
 use Rattle.walk_scopes.specs.ScopesModel.{defined}
 use Rattle.walk_scopes.specs.declared.ScopeStack.{ScopeStack}
 use Rattle.walk_scopes.proofs.Define.{defined-block}
-use Rattle.proof_walk.specs.Notes.{Note}
+use Rattle.proof_walk.specs.Notes.{OwnNames}
 use Rattle.proof_walk.specs.Slots.{keyOf, slotsFrom, keys}
 use Rattle.proof_walk.proofs.State.{Open, Raised, At}
 use Rattle.proof_walk.proofs.PartRows.{table-kept}
-use Rattle.proof_walk.proofs.InExprs.{places-on, slots-same, slots-both, stamped-on}
+use Rattle.proof_walk.proofs.InExprs.{places-on, slots-same, slots-both}
 
 -- ---- marks
 pub raised-same : {end a b : ℕ} → b ≡ a → Raised end a b
@@ -66,24 +66,21 @@ pub record Change (num : Bytes → ℕ) (s : ScopeStack) (r : ℕ) (w v : List �
   pub kept : Kept w v
   pub before : (i : ℕ) → i < r → slotAt v i ≡ slotAt w i
   pub blocks : (x : Bytes) → num x < 4_096 → Raised (s .end) (blockEnd w (num x)) (blockEnd v (num x))
-  pub others : (x : Bytes) → num x < 4_096 → (c : ℕ) → c < r → (c ≡ s .block → ⊥) → stampAt v (num x) / 8_192 ≡ c + 1 → stampAt v (num x) ≡ stampAt w (num x)
 
 change-then : {num : Bytes → ℕ} {s : ScopeStack} {r m : ℕ} {w v z : List ℕ} → r ≤ m → Change num s r w v → Change num s m v z → Change num s r w z
 change-then {num} {s} {r} {m} {w} {v} {z} l p q = record {
   kept = kept-trans (p .kept) (q .kept);
   before = λ i h. q .before i (omega arith) ∙ p .before i h;
   blocks = λ x h. raised-then (p .blocks x h) (q .blocks x h);
-  others = λ x h c i d g.
-      let old : stampAt z (num x) ≡ stampAt v (num x) = q .others x h c (omega arith) d g in
-      old ∙ p .others x h c i d (ap (λ n. n / 8_192) (sym old) ∙ g);
 }
 
 -- ---- and what holds after them, where the names vs are in view
-pub record Done (text : Bytes) (rows : List Row) (num : Bytes → ℕ) (ns : List Note) (s : ScopeStack) (v : Env) (vs : List Part) (seen fs : List Fault) (w w′ : List ℕ) (r e : ℕ) : Type 0 where
+pub record Done (text : Bytes) (rows : List Row) (num : Bytes → ℕ) (own : OwnNames) (s : ScopeStack) (v : Env) (vs : List Part) (seen fs : List Fault) (w w′ : List ℕ) (r e : ℕ) : Type 0 where
   pub far : r ≤ e
-  pub after : At text rows num ns s [] v vs (seenAfter seen fs) w′ e
+  pub after : At text rows num own s [] v vs (seenAfter seen fs) w′ e
   pub slots : slotsFrom w′ r (e - r) ≡ keys (dedupe seen fs)
   pub change : Change num s r w w′
+  pub beyond : (i : ℕ) → e ≤ i → i < 4_096 → flagAt w′ i ≡ flagAt w i
 
 -- a part of the text from row r on, whose line is n: the walk has the depth k for it, and it ends at the row stop or before
 pub record Spans (size k r n stop : ℕ) : Type 0 where
@@ -92,24 +89,25 @@ pub record Spans (size k r n stop : ℕ) : Type 0 where
   pub inside : r + size ≤ stop
 
 -- a loop comes from row r to row e
-pub record Looped (text : Bytes) (rows : List Row) (num : Bytes → ℕ) (ns : List Note) (s : ScopeStack) (v : Env) (loop : ℕ → List ℕ → List ℕ) (vs : List Part) (seen fs : List Fault) (w : List ℕ)
+pub record Looped (text : Bytes) (rows : List Row) (num : Bytes → ℕ) (own : OwnNames) (s : ScopeStack) (v : Env) (loop : ℕ → List ℕ → List ℕ) (vs : List Part) (seen fs : List Fault) (w : List ℕ)
     (r e : ℕ) : Type 0 where
   pub there : List ℕ
   pub goes : loop r w ≡ loop e there
-  pub done : Done text rows num ns s v vs seen fs w there r e
+  pub done : Done text rows num own s v vs seen fs w there r e
 
-module _ {text : Bytes} {rows : List Row} {num : Bytes → ℕ} {ns : List Note} {s : ScopeStack} {v : Env} where
-  pub done-then : {us vs : List Part} {seen fs gs : List Fault} {w₀ w₁ w₂ : List ℕ} {r m e : ℕ} → Done text rows num ns s v us seen fs w₀ w₁ r m
-      → Done text rows num ns s v vs (seenAfter seen fs) gs w₁ w₂ m e → Done text rows num ns s v vs seen (fs ++ gs) w₀ w₂ r e
+module _ {text : Bytes} {rows : List Row} {num : Bytes → ℕ} {own : OwnNames} {s : ScopeStack} {v : Env} where
+  pub done-then : {us vs : List Part} {seen fs gs : List Fault} {w₀ w₁ w₂ : List ℕ} {r m e : ℕ} → Done text rows num own s v us seen fs w₀ w₁ r m
+      → Done text rows num own s v vs (seenAfter seen fs) gs w₁ w₂ m e → Done text rows num own s v vs seen (fs ++ gs) w₀ w₂ r e
   done-then {us} {vs} {seen} {fs} {gs} {w₀} {w₁} {w₂} {r} {m} {e} p q = record {
     far = omega (arith, p .far, q .far);
-    after = subst (λ l. At text rows num ns s [] v vs l w₂ e) (sym (seen-append seen fs gs)) (q .after);
+    after = subst (λ l. At text rows num own s [] v vs l w₂ e) (sym (seen-append seen fs gs)) (q .after);
     slots = slots-then w₁ w₂ seen fs gs (p .far) (q .far) (q .change .before) (p .slots) (q .slots);
     change = change-then (p .far) (p .change) (q .change);
+    beyond = λ i l k. q .beyond i l k ∙ p .beyond i (omega (arith, q .far)) k;
   }
 
-  -- ---- rows that keep the stamps, and the captures seen
-  module _ {vs : List Part} {seen : List Fault} {w : List ℕ} {r : ℕ} (h : At text rows num ns s [] v vs seen w r) where
+  -- ---- rows that keep the fourth numbers, and the captures seen
+  module _ {vs : List Part} {seen : List Fault} {w : List ℕ} {r : ℕ} (h : At text rows num own s [] v vs seen w r) where
     record Next (us : List Part) (w′ : List ℕ) (e : ℕ) : Type 0 where
       far : r ≤ e
       room : e ≤ length rows
@@ -118,42 +116,42 @@ module _ {text : Bytes} {rows : List Row} {num : Bytes → ℕ} {ns : List Note}
       view : (x : Bytes) → num x < 4_096 → Open (s .end) e (blockEnd w′ (num x)) (mem x us)
       blocks : (x : Bytes) → num x < 4_096 → Raised (s .end) (blockEnd w (num x)) (blockEnd w′ (num x))
       lambdas : (x : Bytes) → num x < 4_096 → lambdaEnd w′ (num x) ≡ lambdaEnd w (num x)
-      stamps : (a : ℕ) → stampAt w′ a ≡ stampAt w a
+      fourths : (a : ℕ) → getD w′ (stampBase + a) 0 ≡ getD w (stampBase + a) 0
 
     -- fs are no captures
     done-next : {us : List Part} {w′ : List ℕ} {e : ℕ} {fs : List Fault} → seenAfter seen fs ≡ seen → Next us w′ e
         → ((i : ℕ) → i < r → slotAt w′ i ≡ slotAt w i) → ((i : ℕ) → e ≤ i → i < length rows → slotAt w′ i ≡ 0)
-        → slotsFrom w′ r (e - r) ≡ keys (dedupe seen fs) → Done text rows num ns s v us seen fs w w′ r e
+        → slotsFrom w′ r (e - r) ≡ keys (dedupe seen fs) → Done text rows num own s v us seen fs w w′ r e
     done-next {us} {w′} {e} {fs} q n before clean slots = record {
       far = n .far;
-      after = subst (λ l. At text rows num ns s [] v us l w′ e) (sym q) at;
+      after = subst (λ l. At text rows num own s [] v us l w′ e) (sym q) at;
       slots = slots;
       change = record {
         kept = n .kept;
         before = before;
         blocks = n .blocks;
-        others = λ x l c _ _ _. n .stamps (num x);
       };
+      beyond = λ i _ _. ap (λ x. x / 8_192) (n .fourths i);
     }
       where
-        at : At text rows num ns s [] v us seen w′ e
+        at : At text rows num own s [] v us seen w′ e
         at = record {
           table = table-kept (n .kept) (h .table);
           words = n .words;
           home = h .home;
           view = n .view;
           params = λ x l. open-raised (h .params x l) (n .far) (raised-same (n .lambdas x l));
-          own = λ d. stamped-on (n .stamps) (h .own d);
+          flags = λ d i l k. let far = n .far in ap (λ x. x / 8_192) (n .fourths i) ∙ h .flags d i (omega arith) k;
           locals = h .locals;
           others = h .others;
-          low = λ x l. let far = n .far in omega (arith, h .low x l, n .stamps (num x));
+          low = λ x l. let far = n .far in omega (arith, h .low x l, n .fourths (num x));
           clean = clean;
           places = places-on (n .far) seen (h .places);
         }
 
     -- no fault is there
     done-plain : {us : List Part} {w′ : List ℕ} {e : ℕ} → Next us w′ e → ((i : ℕ) → i < 4_096 → slotAt w′ i ≡ slotAt w i)
-        → Done text rows num ns s v us seen [] w w′ r e
+        → Done text rows num own s v us seen [] w w′ r e
     done-plain {us} {w′} {e} n same =
         let few = h .table .few in
         let room = n .room in
@@ -162,7 +160,7 @@ module _ {text : Bytes} {rows : List Row} {num : Bytes → ℕ} {ns : List Note}
         (slots-none w′ r (e - r) (λ i l k. same i (omega arith) ∙ h .clean i l (omega arith)))
 
     -- rows that are stepped over
-    pub done-skip : {e : ℕ} → r ≤ e → e ≤ length rows → Done text rows num ns s v vs seen [] w w r e
+    pub done-skip : {e : ℕ} → r ≤ e → e ≤ length rows → Done text rows num own s v vs seen [] w w r e
     done-skip {e} l k =
         done-plain (record {
           far = l;
@@ -172,12 +170,12 @@ module _ {text : Bytes} {rows : List Row} {num : Bytes → ℕ} {ns : List Note}
           view = λ x m. open-raised (h .view x m) l (raised-same refl);
           blocks = λ x m. raised-same refl;
           lambdas = λ x m. refl;
-          stamps = λ a. refl;
+          fourths = λ a. refl;
         }) (λ i m. refl)
 
     -- a fault at row r, and none below it
     pub done-fault : {e : ℕ} (f : Fault) → capture (f .kind) ≡ false → f .line ≡ suc (suc r) → 0 < f .kind → f .kind < 16 → r < e → e ≤ length rows
-        → Done text rows num ns s v vs seen (f ∷ []) w (putSlot w r (f .kind)) r e
+        → Done text rows num own s v vs seen (f ∷ []) w (putSlot w r (f .kind)) r e
     done-fault {e} f c n pos small l k =
         let few = h .table .few in
         let room = h .table .room in
@@ -190,7 +188,7 @@ module _ {text : Bytes} {rows : List Row} {num : Bytes → ℕ} {ns : List Note}
           view = λ x m. open-raised (h .view x m) (omega arith) (raised-same (slot-block w r (f .kind) (num x)));
           blocks = λ x m. raised-same (slot-block w r (f .kind) (num x));
           lambdas = λ x m. slot-lambda w r (f .kind) (num x) m;
-          stamps = λ a. slot-stamp w r (f .kind) (omega arith) a;
+          fourths = λ a. slot-fourth w r (f .kind) (omega arith) a;
         })
         (λ i m. slot-other w r (f .kind) i (λ q. omega arith))
         (λ i m p. slot-other w r (f .kind) i (λ q. omega arith) ∙ h .clean i (omega arith) p)
@@ -205,9 +203,9 @@ module _ {text : Bytes} {rows : List Row} {num : Bytes → ℕ} {ns : List Note}
 
     -- the name x is bound in the block
     pub done-bind : {e : ℕ} (x : Part) → s .inner ≡ 0 → s .end < 8_192 → num (x .bytes) < 4_096 → r ≤ e → e ≤ length rows
-        → Done text rows num ns s v (x ∷ vs) seen [] w (defined s w (num (x .bytes))) r e
+        → Done text rows num own s v (x ∷ vs) seen [] w (defined s w (num (x .bytes))) r e
     done-bind {e} x level end small l k =
-        subst (λ z. Done text rows num ns s v (x ∷ vs) seen [] w z r e) (sym (defined-block s w (num (x .bytes)) level))
+        subst (λ z. Done text rows num own s v (x ∷ vs) seen [] w z r e) (sym (defined-block s w (num (x .bytes)) level))
         (done-plain (record {
           far = l;
           room = k;
@@ -216,7 +214,7 @@ module _ {text : Bytes} {rows : List Row} {num : Bytes → ℕ} {ns : List Note}
           view = λ y m. view y m (same y (x .bytes)) refl;
           blocks = λ y m. blocks y m (same y (x .bytes)) refl;
           lambdas = λ y m. raised-block-lambda w (num (x .bytes)) (s .end) (num y) m;
-          stamps = λ a. raised-block-stamp w (num (x .bytes)) (s .end) a;
+          fourths = λ a. raised-block-fourth w (num (x .bytes)) (s .end) a;
         }) (λ i m. raised-block-slot w (num (x .bytes)) (s .end) (h .words) i))
       where
         w′ : List ℕ
@@ -241,20 +239,20 @@ module _ {text : Bytes} {rows : List Row} {num : Bytes → ℕ} {ns : List Note}
 
   -- ---- loops
   module _ {loop : ℕ → List ℕ → List ℕ} {vs : List Part} {seen fs : List Fault} {w : List ℕ} {r : ℕ} where
-    pub looped-one : {e : ℕ} {w′ : List ℕ} → loop r w ≡ loop e w′ → Done text rows num ns s v vs seen fs w w′ r e → Looped text rows num ns s v loop vs seen fs w r e
+    pub looped-one : {e : ℕ} {w′ : List ℕ} → loop r w ≡ loop e w′ → Done text rows num own s v vs seen fs w w′ r e → Looped text rows num own s v loop vs seen fs w r e
     looped-one {e} {w′} q d = record { there = w′; goes = q; done = d }
 
-    pub looped-then : {us : List Part} {gs : List Fault} {m e : ℕ} {w′ : List ℕ} → loop r w ≡ loop m w′ → Done text rows num ns s v vs seen fs w w′ r m
-        → Looped text rows num ns s v loop us (seenAfter seen fs) gs w′ m e → Looped text rows num ns s v loop us seen (fs ++ gs) w r e
+    pub looped-then : {us : List Part} {gs : List Fault} {m e : ℕ} {w′ : List ℕ} → loop r w ≡ loop m w′ → Done text rows num own s v vs seen fs w w′ r m
+        → Looped text rows num own s v loop us (seenAfter seen fs) gs w′ m e → Looped text rows num own s v loop us seen (fs ++ gs) w r e
     looped-then p d q = record { there = q .there; goes = p ∙ q .goes; done = done-then d (q .done) }
 
-    pub looped-to : {gs : List Fault} {m e : ℕ} → m ≡ e → fs ≡ gs → Looped text rows num ns s v loop vs seen fs w r m → Looped text rows num ns s v loop vs seen gs w r e
-    looped-to {gs} {m} {e} p q l = subst (Looped text rows num ns s v loop vs seen gs w r) p (subst (λ fs. Looped text rows num ns s v loop vs seen fs w r m) q l)
+    pub looped-to : {gs : List Fault} {m e : ℕ} → m ≡ e → fs ≡ gs → Looped text rows num own s v loop vs seen fs w r m → Looped text rows num own s v loop vs seen gs w r e
+    looped-to {gs} {m} {e} p q l = subst (Looped text rows num own s v loop vs seen gs w r) p (subst (λ fs. Looped text rows num own s v loop vs seen fs w r m) q l)
 
     -- the loop ends at row e
-    pub looped-end : {e : ℕ} → ((z : List ℕ) → loop e z ≡ z) → Looped text rows num ns s v loop vs seen fs w r e → Done text rows num ns s v vs seen fs w (loop r w) r e
-    looped-end {e} q l = subst (λ z. Done text rows num ns s v vs seen fs w z r e) (sym (l .goes ∙ q (l .there))) (l .done)
+    pub looped-end : {e : ℕ} → ((z : List ℕ) → loop e z ≡ z) → Looped text rows num own s v loop vs seen fs w r e → Done text rows num own s v vs seen fs w (loop r w) r e
+    looped-end {e} q l = subst (λ z. Done text rows num own s v vs seen fs w z r e) (sym (l .goes ∙ q (l .there))) (l .done)
 
-  pub done-to : {vs : List Part} {seen fs gs : List Fault} {w z : List ℕ} {r m e : ℕ} → m ≡ e → fs ≡ gs → Done text rows num ns s v vs seen fs w z r m → Done text rows num ns s v vs seen gs w z r e
+  pub done-to : {vs : List Part} {seen fs gs : List Fault} {w z : List ℕ} {r m e : ℕ} → m ≡ e → fs ≡ gs → Done text rows num own s v vs seen fs w z r m → Done text rows num own s v vs seen gs w z r e
   done-to {vs} {seen} {fs} {gs} {w} {z} {r} {m} {e} p q d =
-      subst (Done text rows num ns s v vs seen gs w z r) p (subst (λ fs. Done text rows num ns s v vs seen fs w z r m) q d)
+      subst (Done text rows num own s v vs seen gs w z r) p (subst (λ fs. Done text rows num own s v vs seen fs w z r m) q d)

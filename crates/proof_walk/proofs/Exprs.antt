@@ -1,7 +1,7 @@
 -- The walk of an expression outside of lambdas: the slots of its rows are its faults, once for a lambda and a name, and all else holds after
 -- it as before: an expression binds nothing. By recursion over the tree, under lambdas too: the walk goes to the next row by the number of
 -- lines below, which is where the next part begins.
-use Prim.Native.Nat.{ℕ, zero, suc, _+_, _-_, _≤_, _<_}
+use Prim.Native.Nat.{ℕ, zero, suc, _+_, _-_, _/_, _≤_, _<_}
 use native.Mathlib.Omega.{arith}
 use native.Mathlib.Numerals.{add-one}
 use mathlib.Core.Path.{_≡_, refl, sym, ap, ap₂, _∙_, subst}
@@ -13,7 +13,7 @@ use borrow.Author.Tests.{lt-leb, not-true}
 use Rattle.spec_text.specs.Bytes.{Bytes}
 use Rattle.spec_text.specs.Tree.{Line, Expr, Exprs, var, node, access, tuple, call, lambda, enil, econs, lenE, lenEs}
 use Rattle.spec_text.proofs.Lists.{and-split}
-use Rattle.spec_faults.specs.Position.{Placed, Use, value, callee}
+use Rattle.spec_faults.specs.Position.{Placed, inDef, Use, value, callee}
 use Rattle.spec_faults.specs.Faults.{Fault}
 use Rattle.spec_faults.proofs.ListingWalk.{State, Env}
 use Rattle.spec_faults.proofs.TextWalk.{rawE, rawEs}
@@ -29,7 +29,7 @@ use Rattle.walk_judge.specs.JudgeModel.{readOf}
 use Rattle.walk_blocks.specs.BlocksModel.{opened}
 use Rattle.walk_tree.specs.WalkModel.{exprAt, walkExpr, walkStmt, walkLine, walkExprs}
 use Rattle.proof_walk.specs.Table.{ParamWord, lambda as lambdaWord, Table, Here}
-use Rattle.proof_walk.specs.Notes.{Note}
+use Rattle.proof_walk.specs.Notes.{OwnNames, Told}
 use Rattle.proof_walk.specs.Slots.{slotsFrom}
 use Rattle.proof_walk.proofs.State.{At}
 use Rattle.proof_walk.proofs.PartRows.{head-row, here-tail, here-left, here-past, row-kind, row-after, row-number, row-params, row-small, row-few, after-E}
@@ -52,13 +52,14 @@ under-part a b (under {q} {qs} d) = under {q = q} {qs = qs} (record {
   early = let e = d .early in omega arith;
 })
 
-around-part : {rows : List Row} {ns : List Note} {s : ScopeStack} {ls : List Placed} {v : Env} {st : State} {r stop i end : ℕ} → r ≤ i → end ≤ stop
-    → Around rows ns s ls v st r stop → Around rows ns s ls v st i end
+around-part : {rows : List Row} {own : OwnNames} {s : ScopeStack} {ls : List Placed} {v : Env} {st : State} {r stop i end : ℕ} → r ≤ i → end ≤ stop
+    → Around rows own s ls v st r stop → Around rows own s ls v st i end
 around-part a b c = record {
   lambdas = under-part a b (c .lambdas);
   inside = omega (arith, c .inside);
   ends = c .ends;
   still = λ d x j k l. c .still d x j (omega arith) (omega arith);
+  told = λ d j k l. c .told d j (omega arith) (omega arith);
 }
 
 inner-outer : {s : ScopeStack} {v : Env} {r stop : ℕ} {ls : List Placed} → Under s v r stop ls → s .inner ≤ s .outer
@@ -127,10 +128,10 @@ step-as : {num : Bytes → ℕ} {s : ScopeStack} {ls : List Placed} {v : Env} {s
 step-as {num} {s} {ls} {v} {st} {seen} {r} {n} {w} {y} {z} {fs} {gs} e d p =
     subst (λ y. Step num s ls v st seen r n w y gs) (sym e) (subst (Step num s ls v st seen r n w y) (sym d) p)
 
-module _ {text : Bytes} {rows : List Row} {num : Bytes → ℕ} {ns : List Note} where
+module _ {text : Bytes} {rows : List Row} {num : Bytes → ℕ} {own : OwnNames} where
   -- the rows below a row of one of the other kinds
   below-step : {s : ScopeStack} {ls : List Placed} {v : Env} {st : State} {seen : List Fault} {w : List ℕ} {l : Line} {part : List Row} (k r : ℕ) (called : Bool) (n : ℕ) → Plain (l .word)
-      → Here rows r (row l n ∷ part) → Stands text rows num ns s ls v st seen w r → {fs : List Fault}
+      → Here rows r (row l n ∷ part) → Stands text rows num own s ls v st seen w r → {fs : List Fault}
       → Step num s ls v st seen (suc r) n w (walkExprs k text s (suc r) (suc r + n) w) fs
       → Step num s ls v st seen r (suc n) w (walkExpr (suc k) text called s r w) fs
   below-step {s} {w = w} {l} k r called n pl h p q =
@@ -143,13 +144,13 @@ module _ {text : Bytes} {rows : List Row} {num : Bytes → ℕ} {ns : List Note}
 
   mutual
     expr-step : (e : Expr) (k r : ℕ) {called : Bool} {u : Use} {s : ScopeStack} {ls : List Placed} {v : Env} {st : State} {seen : List Fault} {w : List ℕ} → CalledAs called u
-        → Here rows r (rowsE e) → WordedE e → lenE e ≤ k → Stands text rows num ns s ls v st seen w r → Around rows ns s ls v st r (r + lenE e)
+        → Here rows r (rowsE e) → WordedE e → lenE e ≤ k → Stands text rows num own s ls v st seen w r → Around rows own s ls v st r (r + lenE e)
         → Step num s ls v st seen r (lenE e) w (walkExpr k text called s r w) (rawE e (suc (suc r)) u ls v st)
     expr-step (var l) zero r a h ok few p c = absurd (omega arith)
     expr-step (var l) (suc k) r {called} {u} {s} {ls} {v} {st} {seen} {w} a h ok few p c =
         let t = p .at .table in
         step-as (at-var k text s called r w (row-few t h) (row-kind t h ∙ ok .0) ∙ ap (λ n. readOf s called n r w) (row-number t h (ok .1))) refl
-        (read-step p c (omega arith) l (row-small t h (ok .1)) a)
+        (read-step p c (omega arith) h (ok .0) (row-small t h (ok .1)) a)
     expr-step (node l es) zero r a h ok few p c = absurd (omega arith)
     expr-step (node l es) (suc k) r {called} a h ok few p c =
         below-step k r called (lenEs es) (plain (l .word) (node-test other refl (ok .0))) h p
@@ -197,7 +198,7 @@ module _ {text : Bytes} {rows : List Row} {num : Bytes → ℕ} {ns : List Note}
         (step-out (lenE e) l p c b (expr-step e k (suc r) asValue he (ok .1 .1) (omega arith) p′ (around-in (lenE e) l p c b)))
 
     exprs-step : (es : Exprs) (k r : ℕ) {s : ScopeStack} {ls : List Placed} {v : Env} {st : State} {seen : List Fault} {w : List ℕ} → Here rows r (rowsEs es) → WordedEs es
-        → lenEs es ≤ k → Stands text rows num ns s ls v st seen w r → Around rows ns s ls v st r (r + lenEs es)
+        → lenEs es ≤ k → Stands text rows num own s ls v st seen w r → Around rows own s ls v st r (r + lenEs es)
         → Step num s ls v st seen r (lenEs es) w (walkExprs k text s r (r + lenEs es) w) (rawEs es (suc (suc r)) ls v st)
     exprs-step enil k r {s} {w = w} h ok few p c =
         step-as (rows-end afterRow (walkExpr k text false s) r (r + 0) w (omega arith)) refl (step-quiet p 0 [] refl refl refl)
@@ -214,9 +215,9 @@ module _ {text : Bytes} {rows : List Row} {num : Bytes → ℕ} {ns : List Note}
         (exprs-step es k (r + lenE e) (here-past (sized-e e) (rowsEs es) h) (ok .1) (omega arith) (onward p (inner-outer (c .lambdas)) q) (around-part (omega arith) (omega arith) c)))
 
 -- ---- outside of lambdas
-module _ {text : Bytes} {rows : List Row} {num : Bytes → ℕ} {ns : List Note} (k r : ℕ) {s : ScopeStack} {v : Env} (st : State) {seen : List Fault} {w : List ℕ} (f : Flat s v)
-    (p : At text rows num ns s [] v (st .view) seen w r) where
-  stands-at : Stands text rows num ns s [] v st seen w r
+module _ {text : Bytes} {rows : List Row} {num : Bytes → ℕ} {own : OwnNames} (k r : ℕ) {s : ScopeStack} {v : Env} (st : State) {seen : List Fault} {w : List ℕ} (f : Flat s v)
+    (p : At text rows num own s [] v (st .view) seen w r) where
+  stands-at : Stands text rows num own s [] v st seen w r
   stands-at = record {
     at = p;
     captured = λ x b. absurd (false≢true (sym (none-blamed x r seen (p .places)) ∙ b));
@@ -224,7 +225,7 @@ module _ {text : Bytes} {rows : List Row} {num : Bytes → ℕ} {ns : List Note}
   }
 
   -- what a step does there
-  walked : {n : ℕ} {z : List ℕ} {fs : List Fault} → Step num s [] v st seen r n w z fs → Done text rows num ns s v (st .view) seen fs w z r (r + n)
+  walked : {n : ℕ} {z : List ℕ} {fs : List Fault} → Step num s [] v st seen r n w z fs → Done text rows num own s v (st .view) seen fs w z r (r + n)
   walked {n} {z} {fs} c = record {
     far = omega arith;
     after = onward stands-at (omega (arith, f .inner)) c .at;
@@ -233,14 +234,14 @@ module _ {text : Bytes} {rows : List Row} {num : Bytes → ℕ} {ns : List Note}
       kept = c .kept;
       before = c .before;
       blocks = λ x l. raised-same (c .blocks (num x));
-      others = λ x l i _ _ _. c .stamps (num x);
     };
+    beyond = λ i _ _. ap (λ x. x / 8_192) (c .fourths i);
   }
 
-  pub expr-walked : (e : Expr) → Here rows r (rowsE e) → WordedE e → lenE e ≤ k → r + lenE e ≤ s .end → s .end ≤ length rows → Still ns v st r (r + lenE e)
-      → Done text rows num ns s v (st .view) seen (rawE e (suc (suc r)) value [] v st) w (walkExpr k text false s r w) r (r + lenE e)
-  expr-walked e h ok few inside ends still = walked (expr-step e k r asValue h ok few stands-at (record { lambdas = flat f; inside = inside; ends = ends; still = still }))
+  pub expr-walked : (e : Expr) → Here rows r (rowsE e) → WordedE e → lenE e ≤ k → r + lenE e ≤ s .end → s .end ≤ length rows → Still own v st r (r + lenE e) → (v .home ≡ inDef → Told rows own r (r + lenE e))
+      → Done text rows num own s v (st .view) seen (rawE e (suc (suc r)) value [] v st) w (walkExpr k text false s r w) r (r + lenE e)
+  expr-walked e h ok few inside ends still told = walked (expr-step e k r asValue h ok few stands-at (record { lambdas = flat f; inside = inside; ends = ends; still = still; told = told }))
 
-  pub exprs-walked : (es : Exprs) → Here rows r (rowsEs es) → WordedEs es → lenEs es ≤ k → r + lenEs es ≤ s .end → s .end ≤ length rows → Still ns v st r (r + lenEs es)
-      → Done text rows num ns s v (st .view) seen (rawEs es (suc (suc r)) [] v st) w (walkExprs k text s r (r + lenEs es) w) r (r + lenEs es)
-  exprs-walked es h ok few inside ends still = walked (exprs-step es k r h ok few stands-at (record { lambdas = flat f; inside = inside; ends = ends; still = still }))
+  pub exprs-walked : (es : Exprs) → Here rows r (rowsEs es) → WordedEs es → lenEs es ≤ k → r + lenEs es ≤ s .end → s .end ≤ length rows → Still own v st r (r + lenEs es) → (v .home ≡ inDef → Told rows own r (r + lenEs es))
+      → Done text rows num own s v (st .view) seen (rawEs es (suc (suc r)) [] v st) w (walkExprs k text s r (r + lenEs es) w) r (r + lenEs es)
+  exprs-walked es h ok few inside ends still told = walked (exprs-step es k r h ok few stands-at (record { lambdas = flat f; inside = inside; ends = ends; still = still; told = told }))

@@ -1,12 +1,13 @@
 -- What holds at a row of an expression (`Stands`), and what some of its rows do to the work buffer (`Step`): rows one after the other are a
 -- step, and where it stood before a step, it stands after it. The mark of a lambda is raised to the row after a step at most, but for a
 -- name that the outermost lambda is blamed for: there it is raised to that lambda's end.
-use Prim.Native.Nat.{ℕ, zero, suc, _+_, _/_, _%_, _≤_, _<_, max}
+use Prim.Native.Nat.{ℕ, zero, suc, _+_, _/_, _≤_, _<_, max}
 use native.Mathlib.Omega.{arith}
 use mathlib.Core.Path.{_≡_, refl, sym, ap, ap₂, _∙_, subst}
 use mathlib.Core.Bool.{Bool, true, false, cond, _&&_, _||_, false≢true, true≢false}
 use mathlib.Core.List.{List, [], _∷_, _++_, append-assoc, map-append}
-use lib.Dec.{eqb, leb}
+use lib.Dec.{eqb}
+use lib.ListN.{getD}
 use borrow.Author.Tests.{ne-eqb}
 use Rattle.spec_text.specs.Bytes.{Bytes, Part, mem, same, any}
 use Rattle.spec_faults.specs.Position.{Placed, Home, inModule, inDef}
@@ -15,12 +16,12 @@ use Rattle.spec_faults.proofs.Lists.{Each, each-map, any-quiet}
 use Rattle.spec_faults.proofs.ListingWalk.{State, Env}
 use Rattle.spec_faults.proofs.Deduped.{sameCapture, dedupe, seenAfter, dedupe-append, seen-append}
 use Rattle.work_rows.specs.Rows.{Row}
-use Rattle.work_marks.specs.MarksModel.{lambdaEnd, blockEnd, slotAt, stampAt}
+use Rattle.work_marks.specs.MarksModel.{stampBase, lambdaEnd, blockEnd, slotAt}
 use Rattle.work_marks.proofs.Writes.{Words, Kept, kept-refl, kept-trans}
 use Rattle.walk_scopes.specs.declared.ScopeStack.{ScopeStack}
-use Rattle.proof_walk.specs.Notes.{Note}
+use Rattle.proof_walk.specs.Notes.{OwnNames}
 use Rattle.proof_walk.specs.Slots.{keyOf, slotsFrom, keys}
-use Rattle.proof_walk.proofs.State.{Open, Stamped, blamed, placeOf, Places, At}
+use Rattle.proof_walk.proofs.State.{Open, blamed, placeOf, Places, At}
 use Rattle.proof_walk.proofs.PartRows.{table-kept}
 
 -- ---- names that a lambda is blamed for
@@ -69,8 +70,8 @@ pub data Captured (home : Home) (locals : List Part) (st : State) (x : Bytes) : 
   notInView : home ≡ inModule → mem x locals ≡ false → mem x (st .view) ≡ false → Captured home locals st x
 
 -- at row r of an expression, with what holds of those names
-pub record Stands (text : Bytes) (rows : List Row) (num : Bytes → ℕ) (ns : List Note) (s : ScopeStack) (ls : List Placed) (v : Env) (st : State) (seen : List Fault) (w : List ℕ) (r : ℕ) : Type 0 where
-  pub at : At text rows num ns s ls v (st .view) seen w r
+pub record Stands (text : Bytes) (rows : List Row) (num : Bytes → ℕ) (own : OwnNames) (s : ScopeStack) (ls : List Placed) (v : Env) (st : State) (seen : List Fault) (w : List ℕ) (r : ℕ) : Type 0 where
+  pub at : At text rows num own s ls v (st .view) seen w r
   pub captured : (x : Bytes) → blamed (placeOf ls) seen x ≡ true → Captured (v .home) (v .locals) st x
   pub far : (x : Bytes) → num x < 4_096 → blamed (placeOf ls) seen x ≡ true → s .outer ≤ lambdaEnd w (num x)
 
@@ -82,7 +83,7 @@ pub record Step (num : Bytes → ℕ) (s : ScopeStack) (ls : List Placed) (v : E
   pub before : (i : ℕ) → i < r → slotAt z i ≡ slotAt w i
   pub beyond : (i : ℕ) → r + n ≤ i → slotAt z i ≡ slotAt w i
   pub blocks : (a : ℕ) → blockEnd z a ≡ blockEnd w a
-  pub stamps : (a : ℕ) → stampAt z a ≡ stampAt w a
+  pub fourths : (a : ℕ) → getD z (stampBase + a) 0 ≡ getD w (stampBase + a) 0
   pub up : (x : Bytes) → num x < 4_096 → lambdaEnd w (num x) ≤ lambdaEnd z (num x)
   pub near : (x : Bytes) → num x < 4_096 → blamed (placeOf ls) (seenAfter seen fs) x ≡ false → lambdaEnd z (num x) ≤ max (lambdaEnd w (num x)) (r + n)
   pub most : (x : Bytes) → num x < 4_096 → lambdaEnd z (num x) ≤ max (lambdaEnd w (num x)) (max (s .outer) (r + n))
@@ -112,12 +113,6 @@ slots-both w r (suc n) m =
 pub open-on : {end r i mark : ℕ} {b : Bool} → r ≤ i → Open end r mark b → Open end i mark b
 open-on l o = record { far = o .far; closed = λ e. omega (arith, o .closed e) }
 
-pub stamped-on : {num : Bytes → ℕ} {w z : List ℕ} {b : ℕ} {ns : List Note} → ((a : ℕ) → stampAt z a ≡ stampAt w a) → Stamped num w b ns → Stamped num z b ns
-stamped-on {num} {b = b} e o = record {
-  own = λ x l. ap (λ k. eqb (k / 8_192) (b + 1)) (e (num x)) ∙ o .own x l;
-  first = λ x l h i j. ap (λ k. leb (k % 8_192) i) (e (num x)) ∙ o .first x l h i j;
-}
-
 module _ {num : Bytes → ℕ} {s : ScopeStack} {ls : List Placed} {v : Env} {st : State} where
   pub step-both : {seen : List Fault} {r n m : ℕ} {w y z : List ℕ} {fs gs : List Fault} → Step num s ls v st seen r n w y fs
       → Step num s ls v st (seenAfter seen fs) (r + n) m y z gs → Step num s ls v st seen r (n + m) w z (fs ++ gs)
@@ -133,7 +128,7 @@ module _ {num : Bytes → ℕ} {s : ScopeStack} {ls : List Placed} {v : Env} {st
         before = λ i l. q .before i (omega arith) ∙ p .before i l;
         beyond = λ i l. q .beyond i (omega arith) ∙ p .beyond i (omega arith);
         blocks = λ a. q .blocks a ∙ p .blocks a;
-        stamps = λ a. q .stamps a ∙ p .stamps a;
+        fourths = λ a. q .fourths a ∙ p .fourths a;
         up = λ x l. omega (arith, p .up x l, q .up x l);
         near = λ x l b.
             let c : blamed (placeOf ls) (seenAfter (seenAfter seen fs) gs) x ≡ false = ap (λ t. blamed (placeOf ls) t x) (sym e) ∙ b in
@@ -156,7 +151,7 @@ module _ {num : Bytes → ℕ} {s : ScopeStack} {ls : List Placed} {v : Env} {st
         before = λ i l. p .before i (omega arith);
         beyond = λ i l. p .beyond i (omega arith);
         blocks = p .blocks;
-        stamps = p .stamps;
+        fourths = p .fourths;
         up = p .up;
         near = λ x l b. omega (arith, p .near x l b);
         most = λ x l. omega (arith, p .most x l);
@@ -165,7 +160,7 @@ module _ {num : Bytes → ℕ} {s : ScopeStack} {ls : List Placed} {v : Env} {st
         places = subst (λ i. Places i (seenAfter seen fs)) d (p .places);
       }
 
-  module _ {text : Bytes} {rows : List Row} {ns : List Note} {seen : List Fault} {r : ℕ} {w : List ℕ} (p : Stands text rows num ns s ls v st seen w r) where
+  module _ {text : Bytes} {rows : List Row} {own : OwnNames} {seen : List Fault} {r : ℕ} {w : List ℕ} (p : Stands text rows num own s ls v st seen w r) where
     -- rows that write nothing
     pub step-quiet : (n : ℕ) (fs : List Fault) → slotsFrom w r n ≡ [] → dedupe seen fs ≡ [] → seenAfter seen fs ≡ seen → Step num s ls v st seen r n w w fs
     step-quiet n fs c d e = record {
@@ -175,7 +170,7 @@ module _ {num : Bytes → ℕ} {s : ScopeStack} {ls : List Placed} {v : Env} {st
       before = λ i l. refl;
       beyond = λ i l. refl;
       blocks = λ a. refl;
-      stamps = λ a. refl;
+      fourths = λ a. refl;
       up = λ x l. omega arith;
       near = λ x l b. omega arith;
       most = λ x l. omega arith;
@@ -185,7 +180,7 @@ module _ {num : Bytes → ℕ} {s : ScopeStack} {ls : List Placed} {v : Env} {st
     }
 
     -- at a later row, where nothing was walked between
-    pub stands-on : {i : ℕ} → r ≤ i → Stands text rows num ns s ls v st seen w i
+    pub stands-on : {i : ℕ} → r ≤ i → Stands text rows num own s ls v st seen w i
     stands-on l = record {
       at = record {
         table = p .at .table;
@@ -193,7 +188,7 @@ module _ {num : Bytes → ℕ} {s : ScopeStack} {ls : List Placed} {v : Env} {st
         home = p .at .home;
         view = λ x j. open-on l (p .at .view x j);
         params = λ x j. open-on l (p .at .params x j);
-        own = p .at .own;
+        flags = λ d i j k. p .at .flags d i (omega arith) k;
         locals = p .at .locals;
         others = p .at .others;
         low = λ x j. omega (arith, p .at .low x j);
@@ -206,7 +201,7 @@ module _ {num : Bytes → ℕ} {s : ScopeStack} {ls : List Placed} {v : Env} {st
 
     -- after a step
     pub onward : {n : ℕ} {z : List ℕ} {fs : List Fault} → s .inner ≤ s .outer → Step num s ls v st seen r n w z fs
-        → Stands text rows num ns s ls v st (seenAfter seen fs) z (r + n)
+        → Stands text rows num own s ls v st (seenAfter seen fs) z (r + n)
     onward {n} {z} {fs} low q = record {
       at = record {
         table = table-kept (q .kept) (p .at .table);
@@ -214,10 +209,10 @@ module _ {num : Bytes → ℕ} {s : ScopeStack} {ls : List Placed} {v : Env} {st
         home = p .at .home;
         view = λ x l. subst (λ m. Open (s .end) (r + n) m (mem x (st .view))) (sym (q .blocks (num x))) (open-on (omega arith) (p .at .view x l));
         params = λ x l. marked x l (mem x (v .params)) (blamed (placeOf ls) (seenAfter seen fs) x) refl refl;
-        own = λ d. stamped-on (q .stamps) (p .at .own d);
+        flags = λ d i j k. ap (λ x. x / 8_192) (q .fourths i) ∙ p .at .flags d i (omega arith) k;
         locals = p .at .locals;
         others = p .at .others;
-        low = λ x l. omega (arith, q .stamps (num x), p .at .low x l);
+        low = λ x l. omega (arith, q .fourths (num x), p .at .low x l);
         clean = λ i l k. q .beyond i l ∙ p .at .clean i (omega arith) k;
         places = q .places;
       };

@@ -1,11 +1,12 @@
 -- The way into a lambda and out of it: its parameters are marked up to its end, and the rows of its body, which it ends with, are a step of the
 -- rows around. Where it is the outermost one, no name is blamed at its line before it, and all that its rows marked is closed after it.
-use Prim.Native.Nat.{ℕ, suc, _+_, _≤_, _<_, max}
+use Prim.Native.Nat.{ℕ, suc, _+_, _/_, _≤_, _<_, max}
 use native.Mathlib.Omega.{arith}
 use mathlib.Core.Path.{_≡_, refl, sym, ap, ap₂, _∙_, subst}
 use mathlib.Core.Bool.{Bool, true, false, cond, _&&_, _||_, and-false, or-assoc, false≢true, true≢false}
 use mathlib.Core.List.{List, [], _∷_}
 use lib.Dec.{eqb}
+use lib.ListN.{getD}
 use borrow.Author.Tests.{eq-eqb, ne-eqb}
 use Rattle.spec_text.specs.Bytes.{Bytes, Part, mem, same}
 use Rattle.spec_text.specs.Tree.{Line}
@@ -17,19 +18,19 @@ use Rattle.spec_faults.proofs.ListingWalk.{State, Env, withParams}
 use Rattle.spec_faults.proofs.Deduped.{seenAfter}
 use Rattle.read_names.specs.ChainsModel.{lookup}
 use Rattle.work_rows.specs.Rows.{Row}
-use Rattle.work_marks.specs.MarksModel.{lambdaEnd, blockEnd, slotAt, stampAt, raisedBlock, raisedLambda}
-use Rattle.work_marks.proofs.Writes.{Words, Kept, kept-refl, kept-trans, raised-lambda-same, raised-lambda-other, raised-lambda-block, raised-lambda-slot, raised-lambda-stamp, kept-raised-lambda, words-raised-lambda}
+use Rattle.work_marks.specs.MarksModel.{stampBase, lambdaEnd, blockEnd, slotAt, raisedBlock, raisedLambda}
+use Rattle.work_marks.proofs.Writes.{Words, Kept, kept-refl, kept-trans, raised-lambda-same, raised-lambda-other, raised-lambda-block, raised-lambda-slot, raised-lambda-fourth, kept-raised-lambda, words-raised-lambda}
 use Rattle.walk_scopes.specs.ScopesModel.{aDef, owns, pushedLambda, defined}
 use Rattle.walk_scopes.specs.declared.ScopeStack.{ScopeStack}
-use Rattle.walk_own_names.specs.OwnNamesModel.{noted, allNoted}
+use Rattle.walk_own_names.specs.OwnNamesModel.{noted, flagged}
 use Rattle.read_row.specs.RowModel.{paramsOf}
 use Rattle.read_row.specs.Worded.{Some, Somes}
 use Rattle.walk_blocks.specs.BlocksModel.{enteredOne, entered, opened}
 use Rattle.proof_walk.specs.Table.{Table}
-use Rattle.proof_walk.specs.Notes.{Note}
+use Rattle.proof_walk.specs.Notes.{OwnNames}
 use Rattle.proof_walk.proofs.State.{Open, Raised, blamed, placeOf, Places}
 use Rattle.proof_walk.proofs.PartRows.{table-kept}
-use Rattle.proof_walk.proofs.InExprs.{places-on, none-blamed, later-blamed, Stands, Step, open-on, stamped-on, step-below}
+use Rattle.proof_walk.proofs.InExprs.{places-on, none-blamed, later-blamed, Stands, Step, open-on, step-below}
 use Rattle.proof_walk.proofs.OneRead.{Under, flat, under, Around, readAt}
 
 -- ---- the parameters
@@ -39,7 +40,7 @@ pub record Bound (num : Bytes → ℕ) (end : ℕ) (ps : List Part) (w z : List 
   pub words : Words w → Words z
   pub slots : (i : ℕ) → slotAt z i ≡ slotAt w i
   pub blocks : (a : ℕ) → blockEnd z a ≡ blockEnd w a
-  pub stamps : (a : ℕ) → stampAt z a ≡ stampAt w a
+  pub fourths : (a : ℕ) → getD z (stampBase + a) 0 ≡ getD w (stampBase + a) 0
   pub marked : (x : Bytes) → num x < 4_096 → mem x ps ≡ true → lambdaEnd z (num x) ≡ max (lambdaEnd w (num x)) end
   pub others : (x : Bytes) → num x < 4_096 → mem x ps ≡ false → lambdaEnd z (num x) ≡ lambdaEnd w (num x)
 
@@ -61,7 +62,7 @@ module _ (text : Bytes) (s : ScopeStack) (deep : 0 < s .inner) where
     words = λ h. b .words (words-raised-lambda w _ _ h);
     slots = λ i. b .slots i ∙ raised-lambda-slot w _ _ i;
     blocks = λ a. b .blocks a ∙ raised-lambda-block w _ _ a;
-    stamps = λ a. b .stamps a ∙ raised-lambda-stamp w _ _ a;
+    fourths = λ a. b .fourths a ∙ raised-lambda-fourth w _ _ a;
     marked = λ x l m. there x l (same x (p .bytes)) (mem x ps) refl refl m;
     others = λ x l m. none x l (same x (p .bytes)) (mem x ps) refl refl m;
   }
@@ -95,7 +96,7 @@ module _ (text : Bytes) (s : ScopeStack) (deep : 0 < s .inner) where
     words = λ h. h;
     slots = λ i. refl;
     blocks = λ a. refl;
-    stamps = λ a. refl;
+    fourths = λ a. refl;
     marked = λ x l m. absurd (false≢true m);
     others = λ x l m. refl;
   }
@@ -111,7 +112,7 @@ module _ (text : Bytes) (s : ScopeStack) (deep : 0 < s .inner) where
   unfolding opened
   bound-opened {num} few i stop ps w t so e =
       let y : List ℕ = entered text s (paramsOf text w i) w in
-      subst (Bound num (s .inner) ps w) (sym (ap (λ b. cond b (allNoted (s .block) (i + 1) stop y) y) owns-none ∙ ap (λ ps. entered text s ps w) e))
+      subst (Bound num (s .inner) ps w) (sym (ap (λ b. cond b (flagged (s .block) (i + 1) stop y) y) owns-none ∙ ap (λ ps. entered text s ps w) e))
       (bound-all few ps w t so)
 
 -- ---- the stack under a lambda that ends at the row end
@@ -176,13 +177,14 @@ module _ {s : ScopeStack} {v : Env} {r end : ℕ} (l : Line) where
   far-in (under d) seen p x b = let e = outer-under s end (d .some) in omega arith
 
 -- ---- the rows of a lambda
-module _ {text : Bytes} {rows : List Row} {num : Bytes → ℕ} {ns : List Note} {s : ScopeStack} {ls : List Placed} {v : Env} {st : State} {seen : List Fault} {w y : List ℕ} {r : ℕ} (n : ℕ) (l : Line) (p : Stands text rows num ns s ls v st seen w r) (c : Around rows ns s ls v st r (r + suc n)) (b : Bound num (r + suc n) (l .params) w y) where
-  pub around-in : Around rows ns (pushedLambda s (r + suc n)) (readAt r l ∷ ls) (withParams (l .params) v) st (suc r) (suc r + n)
+module _ {text : Bytes} {rows : List Row} {num : Bytes → ℕ} {own : OwnNames} {s : ScopeStack} {ls : List Placed} {v : Env} {st : State} {seen : List Fault} {w y : List ℕ} {r : ℕ} (n : ℕ) (l : Line) (p : Stands text rows num own s ls v st seen w r) (c : Around rows own s ls v st r (r + suc n)) (b : Bound num (r + suc n) (l .params) w y) where
+  pub around-in : Around rows own (pushedLambda s (r + suc n)) (readAt r l ∷ ls) (withParams (l .params) v) st (suc r) (suc r + n)
   around-in = record {
     lambdas = under-in l (omega arith) (omega arith) (omega (arith, c .inside, c .ends, p .at .table .few)) (c .lambdas);
     inside = omega (arith, c .inside);
     ends = c .ends;
     still = λ d x i j k. c .still d x i (omega arith) (omega arith);
+    told = λ d i j k. c .told d i (omega arith) (omega arith);
   }
 
   raised-in : (x : Bytes) → num x < 4_096 → Raised (r + suc n) (lambdaEnd w (num x)) (lambdaEnd y (num x))
@@ -192,7 +194,7 @@ module _ {text : Bytes} {rows : List Row} {num : Bytes → ℕ} {ns : List Note}
       go true e = let m = b .marked x j e in record { up = omega arith; most = omega arith }
       go false e = let m = b .others x j e in record { up = omega arith; most = omega arith }
 
-  pub stands-in : Stands text rows num ns (pushedLambda s (r + suc n)) (readAt r l ∷ ls) (withParams (l .params) v) st seen y (suc r)
+  pub stands-in : Stands text rows num own (pushedLambda s (r + suc n)) (readAt r l ∷ ls) (withParams (l .params) v) st seen y (suc r)
   stands-in = record {
     at = record {
       table = table-kept (b .kept) (p .at .table);
@@ -203,10 +205,10 @@ module _ {text : Bytes} {rows : List Row} {num : Bytes → ℕ} {ns : List Note}
           subst (Open (r + suc n) (suc r) (lambdaEnd y (num x)))
           (sym (ap₂ _||_ (mem-append x (l .params) (v .params)) (blamed-in l (c .lambdas) seen (p .at .places) x) ∙ or-assoc (mem x (l .params)) (mem x (v .params)) (blamed (placeOf ls) seen x)))
           (marks x j (mem x (l .params)) (mem x (v .params) || blamed (placeOf ls) seen x) refl refl);
-      own = λ d. stamped-on (b .stamps) (p .at .own d);
+      flags = λ d i j k. ap (λ x. x / 8_192) (b .fourths i) ∙ p .at .flags d i (omega arith) k;
       locals = p .at .locals;
       others = p .at .others;
-      low = λ x j. omega (arith, b .stamps (num x), p .at .low x j);
+      low = λ x j. omega (arith, b .fourths (num x), p .at .low x j);
       clean = λ i j k. b .slots i ∙ p .at .clean i (omega arith) k;
       places = places-on (omega arith) seen (p .at .places);
     };
@@ -238,7 +240,7 @@ module _ {text : Bytes} {rows : List Row} {num : Bytes → ℕ} {ns : List Note}
         before = λ i j. q .before i j ∙ b .slots i;
         beyond = λ i j. q .beyond i j ∙ b .slots i;
         blocks = λ a. q .blocks a ∙ b .blocks a;
-        stamps = λ a. q .stamps a ∙ b .stamps a;
+        fourths = λ a. q .fourths a ∙ b .fourths a;
         up = λ x j. omega (arith, q .up x j, raised-in x j .up);
         near = λ x j h.
             let m = mark-out l (c .lambdas) (seenAfter seen fs) x (lambdaEnd y (num x)) (lambdaEnd z (num x)) h (λ g. omega (arith, q .near x j g)) (omega (arith, q .most x j)) in

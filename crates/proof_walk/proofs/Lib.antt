@@ -2,7 +2,8 @@
 --   State                             what holds at each row of the walk
 --   PartRows, WordTests, ByKind       what the rows of a part give; tests on words; what the walk does at a line of each kind
 --   Noted, Gathered, Assigned         a def's own names are noted, those that its rows bind; which of them are assigned at each row
---   Opened, Nested                    the way into a def or a method; a block in a block, and the way back
+--   Flagged                           each `var` of a def's block gets the flag that the notes give it
+--   Opened, Nested                    the way into a def or a method; a block in a block, and what holds after it
 --   InExprs, OneRead, Lambdas         rows of expressions: steps, a read, a lambda
 --   Done                              rows outside of lambdas, one after the other
 --   Exprs, Targets, Stmts             expressions, targets, statements
@@ -14,6 +15,7 @@ pub mod WordTests
 pub mod ByKind
 pub mod Noted
 pub mod Gathered
+pub mod Flagged
 pub mod Assigned
 pub mod Opened
 pub mod InExprs

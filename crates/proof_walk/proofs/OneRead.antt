@@ -1,13 +1,13 @@
--- A read: the marks and the stamp of its name tell what the rules ask for, so that its slot is the kind of its fault. A name that a lambda
+-- A read: the marks of its name and the flag of its row tell what the rules ask for, so that its slot is the kind of its fault. A name that a lambda
 -- is blamed for has its mark open up to the end of that lambda: later reads of it there leave no slot, and they are no faults anew.
-use Prim.Native.Nat.{ℕ, zero, suc, _+_, _/_, _%_, _≤_, _<_, max}
+use Prim.Native.Nat.{ℕ, zero, suc, _+_, _≤_, _<_, max}
 use native.Mathlib.Omega.{arith}
 use mathlib.Core.Path.{_≡_, refl, sym, ap, ap₂, _∙_, subst}
 use mathlib.Core.Bool.{Bool, true, false, cond, not, _&&_, _||_, false≢true, true≢false}
 use mathlib.Core.List.{List, [], _∷_, _++_}
-use lib.Dec.{eqb, leb, ltb}
-use lib.ListN.{length}
-use borrow.Author.Tests.{lt-ltb, le-ltb, leb-true, leb-false, eq-eqb, ne-eqb}
+use lib.Dec.{eqb, ltb}
+use lib.ListN.{length, getD}
+use borrow.Author.Tests.{lt-ltb, le-ltb, eq-eqb, ne-eqb}
 use Rattle.spec_text.specs.Bytes.{Bytes, mem, same}
 use Rattle.spec_text.specs.Tree.{Line, var}
 use Rattle.spec_text.proofs.Lists.{same-eq, same-false}
@@ -16,21 +16,24 @@ use Rattle.spec_faults.specs.Faults.{Fault, faultAt, outermost, unbound, undefi
 use Rattle.spec_faults.proofs.ListingWalk.{State, Env}
 use Rattle.spec_faults.proofs.TextWalk.{rawE}
 use Rattle.spec_faults.proofs.Deduped.{dedupe, seenAfter}
-use Rattle.work_rows.specs.Rows.{Row}
-use Rattle.work_marks.specs.MarksModel.{lambdaEnd, blockEnd, slotAt, stampAt, raisedLambda, putSlot}
-use Rattle.work_marks.proofs.Writes.{kept-trans, raised-lambda-same, raised-lambda-other, raised-lambda-block, raised-lambda-slot, raised-lambda-stamp, kept-raised-lambda, words-raised-lambda, slot-same, slot-other, slot-lambda, slot-block, slot-stamp, kept-slot, words-slot}
+use Rattle.work_rows.specs.Rows.{Row, row}
+use Rattle.read_tree.specs.Laid.{noRow}
+use Rattle.work_marks.specs.MarksModel.{lambdaEnd, blockEnd, slotAt, flagAt, raisedLambda, putSlot}
+use Rattle.work_marks.proofs.Writes.{kept-trans, raised-lambda-same, raised-lambda-other, raised-lambda-block, raised-lambda-slot, raised-lambda-fourth, kept-raised-lambda, words-raised-lambda, slot-same, slot-other, slot-lambda, slot-block, slot-fourth, kept-slot, words-slot}
 use Rattle.walk_scopes.specs.ScopesModel.{aDef, module′, isDefined}
 use Rattle.walk_scopes.specs.declared.ScopeStack.{ScopeStack}
-use Rattle.walk_judge.specs.JudgeModel.{unboundKind, undefinedKind, faulted, isOwn, readOf}
-use Rattle.proof_walk.specs.Notes.{Note, assignedBy}
+use Rattle.walk_judge.specs.JudgeModel.{unboundKind, undefinedKind, faulted, flagIn, readOf}
+use Rattle.proof_walk.specs.Notes.{OwnNames, assignedBy, flagOf, Told}
+use Rattle.proof_walk.specs.Table.{Here}
 use Rattle.proof_walk.specs.Slots.{keyOf, slotsFrom, keys}
 use Rattle.proof_walk.proofs.State.{homeNumber, Open, blamed, placeOf, Places}
+use Rattle.proof_walk.proofs.PartRows.{head-row}
 use Rattle.proof_walk.proofs.InExprs.{places-on, none-blamed, Captured, notAssigned, notInView, Stands, Step, step-quiet}
 
 -- ---- the rows of a part, from row r up to the row stop
 -- from row r up to the row stop, no name of the def around becomes assigned
-abbrev pub Still : List Note → Env → State → ℕ → ℕ → Type 0
-Still ns v st r stop = v .home ≡ inDef → (x : Bytes) (i : ℕ) → r ≤ i → i < stop → mem x (st .assigned) ≡ assignedBy ns x i
+abbrev pub Still : OwnNames → Env → State → ℕ → ℕ → Type 0
+Still own v st r stop = v .home ≡ inDef → (x : Bytes) (i : ℕ) → r ≤ i → i < stop → mem x (st .assigned) ≡ assignedBy (own .notes) x i
 
 -- outside of lambdas
 pub record Flat (s : ScopeStack) (v : Env) : Type 0 where
@@ -51,11 +54,12 @@ pub data Under (s : ScopeStack) (v : Env) (r stop : ℕ) : List Placed → Type 
   flat : Flat s v → Under s v r stop []
   under : {q : Placed} {qs : List Placed} → Beneath s (outermost q qs .number) r stop → Under s v r stop (q ∷ qs)
 
-pub record Around (rows : List Row) (ns : List Note) (s : ScopeStack) (ls : List Placed) (v : Env) (st : State) (r stop : ℕ) : Type 0 where
+pub record Around (rows : List Row) (own : OwnNames) (s : ScopeStack) (ls : List Placed) (v : Env) (st : State) (r stop : ℕ) : Type 0 where
   pub lambdas : Under s v r stop ls
   pub inside : stop ≤ s .end
   pub ends : s .end ≤ length rows
-  pub still : Still ns v st r stop
+  pub still : Still own v st r stop
+  pub told : v .home ≡ inDef → Told rows own r stop
 
 -- how a read is called
 pub data CalledAs : Bool → Use → Type 0 where
@@ -66,13 +70,6 @@ pub data CalledAs : Bool → Use → Type 0 where
 open-test : (end r mark : ℕ) (b : Bool) → Open end r mark b → (b ≡ true → r < end) → ltb r mark ≡ b
 open-test end r mark true o l = lt-ltb r mark (omega (arith, o .far refl, l refl))
 open-test end r mark false o l = le-ltb r mark (omega (arith, o .closed refl))
-
-not-leb : (m r : ℕ) → ltb r m ≡ not (leb m r)
-not-leb m r = go (leb m r) refl
-  where
-    go : (b : Bool) → leb m r ≡ b → ltb r m ≡ not b
-    go true e = le-ltb r m (leb-true m r e)
-    go false e = lt-ltb r m (leb-false m r e)
 
 key-some : (n k : ℕ) → 0 < k → keyOf n k ≡ record { line = n; kind = k } ∷ []
 key-some n zero l = absurd (omega arith)
@@ -90,7 +87,7 @@ module-def e = let z : _≡_ {A = ℕ} 0 1 = cc in omega arith
 method-def : inMethod ≡ inDef → ⊥
 method-def e = let z : _≡_ {A = ℕ} 0 1 = cc in omega arith
 
-module _ {text : Bytes} {rows : List Row} {num : Bytes → ℕ} {ns : List Note} {s : ScopeStack} {ls : List Placed} {v : Env} {st : State} {seen : List Fault} {w : List ℕ} {r : ℕ} (p : Stands text rows num ns s ls v st seen w r) {stop : ℕ} (c : Around rows ns s ls v st r stop) (on : r < stop) (x : Bytes) (small : num x < 4_096) where
+module _ {text : Bytes} {rows : List Row} {num : Bytes → ℕ} {own : OwnNames} {s : ScopeStack} {ls : List Placed} {v : Env} {st : State} {seen : List Fault} {w : List ℕ} {r : ℕ} (p : Stands text rows num own s ls v st seen w r) {stop : ℕ} (c : Around rows own s ls v st r stop) (on : r < stop) (x : Bytes) (small : num x < 4_096) where
   test-param : ltb r (lambdaEnd w (num x)) ≡ (mem x (v .params) || blamed (placeOf ls) seen x)
   test-param = open-test (s .inner) r (lambdaEnd w (num x)) _ (p .at .params x small) (open-before (c .lambdas) on seen x (p .at .places))
 
@@ -99,17 +96,6 @@ module _ {text : Bytes} {rows : List Row} {num : Bytes → ℕ} {ns : List Note}
 
   none-own : (h : Home) → (h ≡ inDef → ⊥) → v .home ≡ h → mem x (v .locals) ≡ false
   none-own h n e = p .at .others (λ d. n (sym e ∙ d)) x
-
-  test-own : isOwn s w (num x) ≡ mem x (v .locals)
-  test-own = go (v .home) refl
-    where
-      home : (h : Home) → v .home ≡ h → isOwn s w (num x) ≡ (eqb (homeNumber h) aDef && eqb (stampAt w (num x) / 8_192) (s .block + 1))
-      home h e = ap (λ k. eqb k aDef && eqb (stampAt w (num x) / 8_192) (s .block + 1)) (p .at .home ∙ ap homeNumber e)
-
-      go : (h : Home) → v .home ≡ h → isOwn s w (num x) ≡ mem x (v .locals)
-      go inModule e = home inModule e ∙ sym (none-own inModule module-def e)
-      go inDef e = home inDef e ∙ (p .at .own e .own x small ∙ sym (p .at .locals e x))
-      go inMethod e = home inMethod e ∙ sym (none-own inMethod method-def e)
 
   -- a name of its own: the home is a def
   own-home : mem x (v .locals) ≡ true → v .home ≡ inDef
@@ -120,15 +106,32 @@ module _ {text : Bytes} {rows : List Row} {num : Bytes → ℕ} {ns : List Note}
       go inDef e = refl
       go inMethod e = absurd (false≢true (sym (none-own inMethod method-def e) ∙ o))
 
-  test-assigned : mem x (v .locals) ≡ true → ltb r (stampAt w (num x) % 8_192) ≡ not (mem x (st .assigned))
-  test-assigned o =
-      let d = own-home o in
-      let l : r < 8_191 = omega (arith, c .inside, c .ends, p .at .table .few) in
-      not-leb (stampAt w (num x) % 8_192) r
-      ∙ ap not (p .at .own d .first x small (sym (p .at .locals d x) ∙ o) r l ∙ sym (c .still d x r (omega arith) on))
+  -- the flag of the row, which has this name
+  test-flag : {l : Line} {n : ℕ} {part : List Row} → Here rows r (row l n ∷ part) → l .word ≡ 17 → l .name .bytes ≡ x
+      → flagIn s w r ≡ cond (mem x (v .locals)) (cond (mem x (st .assigned)) 1 2) 0
+  unfolding flagIn
+  test-flag {l} h k q = go (v .home) refl
+    where
+      home : (h : Home) → v .home ≡ h → cond (eqb (s .home) aDef) (flagAt w r) 0 ≡ cond (eqb (homeNumber h) aDef) (flagAt w r) 0
+      home h e = ap (λ k. cond (eqb k aDef) (flagAt w r) 0) (p .at .home ∙ ap homeNumber e)
+
+      none : mem x (v .locals) ≡ false → _≡_ {A = ℕ} 0 (cond (mem x (v .locals)) (cond (mem x (st .assigned)) 1 2) 0)
+      none e = ap (λ t. cond t (cond (mem x (st .assigned)) 1 2) 0) (sym e)
+
+      line : getD rows r noRow .line ≡ l
+      line = ap (λ (y : Row). y .line) (head-row h .1)
+
+      go : (h : Home) → v .home ≡ h → cond (eqb (s .home) aDef) (flagAt w r) 0 ≡ cond (mem x (v .locals)) (cond (mem x (st .assigned)) 1 2) 0
+      go inModule e = home inModule e ∙ none (none-own inModule module-def e)
+      go inMethod e = home inMethod e ∙ none (none-own inMethod method-def e)
+      go inDef e =
+          home inDef e ∙ p .at .flags e r (omega arith) (omega (arith, c .inside, c .ends))
+          ∙ c .told e r (omega arith) on (ap (λ (y : Line). y .word) line ∙ k)
+          ∙ ap (λ (y : Line). flagOf (own .notes) (y .name .bytes) r) line ∙ ap (λ y. flagOf (own .notes) y r) q
+          ∙ ap₂ (λ t u. cond t (cond u 1 2) 0) (sym (p .at .locals e x)) (sym (c .still e x r (omega arith) on))
 
 -- ---- the fault of a read
-module _ {text : Bytes} {rows : List Row} {num : Bytes → ℕ} {ns : List Note} {s : ScopeStack} {ls : List Placed} {v : Env} {st : State} {seen : List Fault} {w : List ℕ} {r : ℕ} (p : Stands text rows num ns s ls v st seen w r) (l : Line) (few : r < 4_096) (k : ℕ) (some : 0 < k) (most : k < 16) (q : Placed) where
+module _ {text : Bytes} {rows : List Row} {num : Bytes → ℕ} {own : OwnNames} {s : ScopeStack} {ls : List Placed} {v : Env} {st : State} {seen : List Fault} {w : List ℕ} {r : ℕ} (p : Stands text rows num own s ls v st seen w r) (l : Line) (few : r < 4_096) (k : ℕ) (some : 0 < k) (most : k < 16) (q : Placed) where
   abbrev fault : Fault
   fault = faultAt k q (record { number = suc (suc r); line = l })
 
@@ -147,7 +150,7 @@ module _ {text : Bytes} {rows : List Row} {num : Bytes → ℕ} {ns : List Note}
         before = λ i j. slot-other w r k i (λ g. omega arith);
         beyond = λ i j. slot-other w r k i (λ g. omega arith);
         blocks = λ a. slot-block w r k a;
-        stamps = λ a. slot-stamp w r k few a;
+        fourths = λ a. slot-fourth w r k few a;
         up = λ x j. omega (arith, slot-lambda w r k (num x) j);
         near = λ x j b. omega (arith, slot-lambda w r k (num x) j);
         most = λ x j. omega (arith, slot-lambda w r k (num x) j);
@@ -203,7 +206,7 @@ module _ {text : Bytes} {rows : List Row} {num : Bytes → ℕ} {ns : List Note}
           before = λ i j. raised-lambda-slot (putSlot w r k) _ _ i ∙ slot-other w r k i (λ g. omega arith);
           beyond = λ i j. raised-lambda-slot (putSlot w r k) _ _ i ∙ slot-other w r k i (λ g. omega arith);
           blocks = λ a. raised-lambda-block (putSlot w r k) _ _ a ∙ slot-block w r k a;
-          stamps = λ a. raised-lambda-stamp (putSlot w r k) _ _ a ∙ slot-stamp w r k few a;
+          fourths = λ a. raised-lambda-fourth (putSlot w r k) _ _ a ∙ slot-fourth w r k few a;
           up = λ x j. by-name x (λ h. omega (arith, mark-same x h)) (λ h. omega (arith, mark-other x j h));
           near = λ x j g.
               by-name x (λ h. absurd (true≢false (sym (now x ∙ ap (λ t. t || blamed (placeOf ls) seen x) h) ∙ g)))
@@ -219,16 +222,16 @@ module _ {text : Bytes} {rows : List Row} {num : Bytes → ℕ} {ns : List Note}
 abbrev pub readAt : ℕ → Line → Placed
 readAt r l = record { number = suc (suc r); line = l }
 
-module _ {text : Bytes} {rows : List Row} {num : Bytes → ℕ} {ns : List Note} {s : ScopeStack} {v : Env} {st : State} {seen : List Fault} {w : List ℕ} {r : ℕ} (l : Line) (few : r < 4_096) (small : num (l .name .bytes) < 4_096) where
+module _ {text : Bytes} {rows : List Row} {num : Bytes → ℕ} {own : OwnNames} {s : ScopeStack} {v : Env} {st : State} {seen : List Fault} {w : List ℕ} {r : ℕ} (l : Line) (few : r < 4_096) (small : num (l .name .bytes) < 4_096) where
   -- a name that the outermost lambda is blamed for already
-  again : {q : Placed} {qs : List Placed} → Stands text rows num ns s (q ∷ qs) v st seen w r → blamed (outermost q qs .number) seen (l .name .bytes) ≡ true
+  again : {q : Placed} {qs : List Placed} → Stands text rows num own s (q ∷ qs) v st seen w r → blamed (outermost q qs .number) seen (l .name .bytes) ≡ true
       → slotAt w r ≡ 0 → (k : ℕ) → capture k ≡ true → Step num s (q ∷ qs) v st seen r 1 w w (faultAt k (outermost q qs) (readAt r l) ∷ [])
   again {q} {qs} p b c k e =
       step-quiet p 1 _ (ap (λ i. keyOf (suc (suc r)) i ++ []) c)
       (ap₂ (λ t u. cond t (cond u [] (faultAt k (outermost q qs) (readAt r l) ∷ [])) (faultAt k (outermost q qs) (readAt r l) ∷ [])) e b)
       (ap₂ (λ t u. cond t (cond u seen (faultAt k (outermost q qs) (readAt r l) ∷ seen)) seen) e b)
 
-  blamed-step : {ls : List Placed} {stop : ℕ} → Stands text rows num ns s ls v st seen w r → Under s v r stop ls → blamed (placeOf ls) seen (l .name .bytes) ≡ true
+  blamed-step : {ls : List Placed} {stop : ℕ} → Stands text rows num own s ls v st seen w r → Under s v r stop ls → blamed (placeOf ls) seen (l .name .bytes) ≡ true
       → slotAt w r ≡ 0 → (u : Use) → Captured (v .home) (v .locals) st (l .name .bytes)
       → Step num s ls v st seen r 1 w w (judgeRead (v .home) ls u (readAt r l) false (mem (l .name .bytes) (v .locals)) (mem (l .name .bytes) (st .assigned)) (mem (l .name .bytes) (st .view)))
   blamed-step p (flat f) b c u y = absurd (false≢true (sym (none-blamed (l .name .bytes) r seen (p .at .places)) ∙ b))
@@ -242,7 +245,7 @@ module _ {text : Bytes} {rows : List Row} {num : Bytes → ℕ} {ns : List Note}
       ∙ ap (λ i. unless i (undefined inModule (q ∷ qs) u (readAt r l))) i))
       (again p b c 10 refl)
 
-  unbound-step : {ls : List Placed} {stop : ℕ} → Stands text rows num ns s ls v st seen w r → Under s v r stop ls → {called : Bool} {u : Use} → CalledAs called u
+  unbound-step : {ls : List Placed} {stop : ℕ} → Stands text rows num own s ls v st seen w r → Under s v r stop ls → {called : Bool} {u : Use} → CalledAs called u
       → blamed (placeOf ls) seen (l .name .bytes) ≡ false → Captured (v .home) (v .locals) st (l .name .bytes)
       → Step num s ls v st seen r 1 w (faulted s (num (l .name .bytes)) r (unboundKind s called) w) (unbound ls u (readAt r l) ∷ [])
   unfolding faulted unboundKind
@@ -257,7 +260,7 @@ module _ {text : Bytes} {rows : List Row} {num : Bytes → ℕ} {ns : List Note}
       (sym (ne-eqb (s .outer) 0 (λ e. omega (arith, d .some))))
       (capture-fault p l few 13 (omega arith) (omega arith) (outermost q qs) stop d refl small refl b y)
 
-  undefined-step : {ls : List Placed} {stop : ℕ} → Stands text rows num ns s ls v st seen w r → Under s v r stop ls → {called : Bool} {u : Use} → CalledAs called u
+  undefined-step : {ls : List Placed} {stop : ℕ} → Stands text rows num own s ls v st seen w r → Under s v r stop ls → {called : Bool} {u : Use} → CalledAs called u
       → blamed (placeOf ls) seen (l .name .bytes) ≡ false → mem (l .name .bytes) (v .locals) ≡ false → mem (l .name .bytes) (st .view) ≡ false → (h : Home) → v .home ≡ h
       → Step num s ls v st seen r 1 w (faulted s (num (l .name .bytes)) r (undefinedKind s called) w) (undefined h ls u (readAt r l) ∷ [])
   unfolding faulted undefinedKind
@@ -288,21 +291,26 @@ module _ {text : Bytes} {rows : List Row} {num : Bytes → ℕ} {ns : List Note}
 abbrev readBy : ScopeStack → Bool → ℕ → ℕ → List ℕ → Bool → Bool → Bool → Bool → List ℕ
 readBy s called a r w t o m d = cond t w (cond o (cond m (faulted s a r (unboundKind s called) w) w) (cond d w (faulted s a r (undefinedKind s called) w)))
 
--- of a name that is not own, no one asks whether it is assigned
-own-asked : (s : ScopeStack) (called : Bool) (a r : ℕ) (w : List ℕ) (t o m n d : Bool) → (o ≡ true → m ≡ n) → readBy s called a r w t o m d ≡ readBy s called a r w t o n d
-own-asked s called a r w t true m n d e = ap (λ m. readBy s called a r w t true m d) (e refl)
-own-asked s called a r w t false m n d e = refl
+-- and by what the flag says
+by-flag : (s : ScopeStack) (called : Bool) (a r : ℕ) (w : List ℕ) (t o m d : Bool)
+    → cond t w (cond (eqb (cond o (cond m 1 2) 0) 1) w (cond (eqb (cond o (cond m 1 2) 0) 2) (faulted s a r (unboundKind s called) w) (cond d w (faulted s a r (undefinedKind s called) w))))
+    ≡ readBy s called a r w t o (not m) d
+by-flag s called a r w t true true d = refl
+by-flag s called a r w t true false d = refl
+by-flag s called a r w t false m d = refl
 
-module _ {text : Bytes} {rows : List Row} {num : Bytes → ℕ} {ns : List Note} {s : ScopeStack} {ls : List Placed} {v : Env} {st : State} {seen : List Fault} {w : List ℕ} {r : ℕ} (p : Stands text rows num ns s ls v st seen w r) {stop : ℕ} (c : Around rows ns s ls v st r stop) (on : r < stop) (l : Line) (small : num (l .name .bytes) < 4_096) where
+module _ {text : Bytes} {rows : List Row} {num : Bytes → ℕ} {own : OwnNames} {s : ScopeStack} {ls : List Placed} {v : Env} {st : State} {seen : List Fault} {w : List ℕ} {r : ℕ} (p : Stands text rows num own s ls v st seen w r) {stop : ℕ} (c : Around rows own s ls v st r stop) (on : r < stop)
+    {l : Line} {n : ℕ} {part : List Row} (here : Here rows r (row l n ∷ part)) (word : l .word ≡ 17) (small : num (l .name .bytes) < 4_096) where
   read-tests : (called : Bool) → readOf s called (num (l .name .bytes)) r w
       ≡ readBy s called (num (l .name .bytes)) r w (mem (l .name .bytes) (v .params) || blamed (placeOf ls) seen (l .name .bytes)) (mem (l .name .bytes) (v .locals))
       (not (mem (l .name .bytes) (st .assigned))) (mem (l .name .bytes) (st .view))
   unfolding readOf
   read-tests called =
       let x : Bytes = l .name .bytes in
-      ap₂ (λ t o. readBy s called (num x) r w t o (ltb r (stampAt w (num x) % 8_192)) (isDefined w (num x) r)) (test-param p c on x small) (test-own p c on x small)
-      ∙ ap (readBy s called (num x) r w (mem x (v .params) || blamed (placeOf ls) seen x) (mem x (v .locals)) (ltb r (stampAt w (num x) % 8_192))) (test-view p c on x small)
-      ∙ own-asked s called (num x) r w (mem x (v .params) || blamed (placeOf ls) seen x) (mem x (v .locals)) _ _ (mem x (st .view)) (test-assigned p c on x small)
+      ap₂ (λ t f. cond t w (cond (eqb f 1) w (cond (eqb f 2) (faulted s (num x) r (unboundKind s called) w) (cond (isDefined w (num x) r) w (faulted s (num x) r (undefinedKind s called) w)))))
+      (test-param p c on x small) (test-flag p c on x small here word refl)
+      ∙ by-flag s called (num x) r w (mem x (v .params) || blamed (placeOf ls) seen x) (mem x (v .locals)) (mem x (st .assigned)) (isDefined w (num x) r)
+      ∙ ap (readBy s called (num x) r w (mem x (v .params) || blamed (placeOf ls) seen x) (mem x (v .locals)) (not (mem x (st .assigned)))) (test-view p c on x small)
 
   pub read-step : {called : Bool} {u : Use} → CalledAs called u → Step num s ls v st seen r 1 w (readOf s called (num (l .name .bytes)) r w) (rawE (var l) (suc (suc r)) u ls v st)
   read-step {called} {u} a =

@@ -8,121 +8,107 @@ use mathlib.Core.Logic.{_≢_}
 use mathlib.Core.Bool.{Bool, true, false, _||_, or-assoc, or-comm, false≢true}
 use mathlib.Core.List.{List, [], _∷_, _++_, append-nil, map}
 use lib.Dec.{eqb, ltb}
-use lib.ListN.{length, getD, length-map, length-set}
+use lib.ListN.{length, getD, length-map}
 use lib.Seq.{getD-set-same, getD-set-other}
 use borrow.Author.Tests.{eqb-true, eqb-false, ltb-true, ltb-false, le-ltb}
 use Rattle.spec_text.specs.Bytes.{Bytes, Part, mem, same, all}
-use Rattle.spec_text.specs.Tree.{Tree, snil, lenSs, firstLine}
+use Rattle.spec_text.specs.Tree.{Tree, lenSs, firstLine}
 use Rattle.spec_text.proofs.Lists.{and-split, same-eq}
 use Rattle.spec_faults.specs.Position.{inModule, inDef}
 use Rattle.spec_faults.specs.Builtins.{builtinNames}
 use Rattle.spec_faults.proofs.ListingWalk.{afterSs, moduleEnv, startState}
 use Rattle.spec_faults.proofs.Lists.{mem-append}
 use Rattle.spec_faults.proofs.TextWalk.{rawSs}
-use Rattle.work_rows.specs.Layout.{put, rowsMost, headBase, numberAt, afterRow}
+use Rattle.work_rows.specs.Layout.{put, rowsMost, numberAt, afterRow}
 use Rattle.read_names.specs.ChainsModel.{lookup}
 use Rattle.work_rows.specs.Rows.{Row, globalRow, rowsSs, rowsT}
-use Rattle.read_tree.specs.Laid.{noRow}
 use Rattle.work_rows.proofs.Lengths.{rows-length}
-use Rattle.work_marks.specs.MarksModel.{lambdaEnd, blockEnd, stampAt, putStamp, raisedBlock}
-use Rattle.work_marks.proofs.Writes.{Words, Kept, kept-refl, kept-trans, words-put, kept-stamp, words-stamp, stamp-same, stamp-other, stamp-apart}
-use Rattle.work_rows.proofs.Loops.{rows-end}
+use Rattle.work_marks.specs.MarksModel.{lambdaEnd, blockEnd, stampAt, bare, blank, unmarked, unstamped, raisedBlock}
+use Rattle.work_marks.proofs.Writes.{Words, Kept, kept-refl, kept-trans, words-put, bare-kept, kept-fourth}
+use Rattle.work_rows.specs.LoopsModel.{rowsTo, nextRow}
+use Rattle.work_rows.proofs.Loops.{rows-end, rows-more, row-on}
 use Rattle.walk_scopes.specs.ScopesModel.{atModule, defined}
 use Rattle.walk_scopes.specs.declared.ScopeStack.{ScopeStack}
 use Rattle.walk_scopes.proofs.Define.{defined-block}
 use Rattle.read_row.specs.Worded.{Somes, WordedSs}
-use Rattle.walk_given.specs.GivenModel.{fresh, given, globalsFrom, begun}
+use Rattle.walk_given.specs.GivenModel.{given, globalsFrom, begun}
 use Rattle.walk_tree.specs.WalkModel.{walkLine, walked}
 use Rattle.proof_walk.specs.Table.{Table, Here}
+use Rattle.proof_walk.specs.Notes.{noOwnNames}
 use Rattle.proof_walk.proofs.State.{homeNumber, Open, At}
 use Rattle.proof_walk.proofs.PartRows.{here-tail, here-past, row-number, table-kept}
 use Rattle.proof_walk.proofs.Done.{Done, done-then, done-skip, done-bind, looped-end}
 use Rattle.proof_walk.proofs.Nested.{Block}
 use Rattle.proof_walk.proofs.Stmts.{stmts}
 
--- ---- a row is cleared
--- of what stands at a head, the head alone stays
-module _ (w : List ℕ) (i : ℕ) (few : i < 4_096) (room : 16_384 ≤ length w) where
-  abbrev bare : List ℕ
-  bare = put w (headBase + i) (getD w (headBase + i) 0 % 8_192)
+-- ---- rows are cleared
+-- one number after the other from row i on, of n rows, where `f` writes the number at its base and the row: those before stay
+record Cleared (base i n : ℕ) (P : ℕ → Type 0) (w v : List ℕ) : Type 0 where
+  kept : Kept w v
+  words : Words v
+  apart : (j : ℕ) → j < base + i → getD v j 0 ≡ getD w j 0
+  beyond : (j : ℕ) → base + 4_096 ≤ j → getD v j 0 ≡ getD w j 0
+  there : (a : ℕ) → i ≤ a → a < i + n → P (getD v (base + a) 0)
 
-  bare-same : getD bare (headBase + i) 0 ≡ getD w (headBase + i) 0 % 8_192
-  bare-same = getD-set-same w (headBase + i) _ 0 (omega arith) ∙ omega arith
+module _ (base : ℕ) (new : ℕ → ℕ) (P : ℕ → Type 0) (good : (x : ℕ) → P (new x % 4_294_967_296))
+    (keeps : (i : ℕ) (w : List ℕ) → i < 4_096 → Kept w (put w (base + i) (new (getD w (base + i) 0)))) (low : base ≤ 12_288) where
+  abbrev one : ℕ → List ℕ → List ℕ
+  one i w = put w (base + i) (new (getD w (base + i) 0))
 
-  bare-other : (j : ℕ) → (j ≡ headBase + i → ⊥) → getD bare j 0 ≡ getD w j 0
-  bare-other j d = getD-set-other w (headBase + i) j _ 0 d
-
-  bare-kept : Kept w bare
-  bare-kept = record {
-    rows = λ j l. ap (λ x. x % 131_072) (bare-other j (λ e. omega arith));
-    seconds = λ j l. bare-other (4_096 + j) (λ e. omega arith);
-    heads = λ h l. head h (eqb h i) refl;
-    long = length-set w (headBase + i) _;
-  }
+  clear-rows : (n i : ℕ) (w : List ℕ) → i + n ≤ 4_096 → 16_384 ≤ length w → Words w → Cleared base i n P w (rowsTo nextRow one i (i + n) w)
+  clear-rows zero i w l room g = subst (Cleared base i 0 P w) (sym (rows-end nextRow one i (i + 0) w (omega arith))) (record {
+    kept = kept-refl w;
+    words = g;
+    apart = λ _ _. refl;
+    beyond = λ _ _. refl;
+    there = λ a m k. absurd (omega arith);
+  })
+  clear-rows (suc n) i w l room g =
+      let v : List ℕ = one i w in
+      let k : Kept w v = keeps i w (omega arith) in
+      let e : i + 1 + n ≡ i + suc n = omega arith in
+      let z : Cleared base (i + 1) n P v (rowsTo nextRow one (i + 1) (i + suc n) v) =
+      subst (λ stop. Cleared base (i + 1) n P v (rowsTo nextRow one (i + 1) stop v)) e
+      (clear-rows n (i + 1) v (omega arith) (omega (arith, k .long)) (words-put w (base + i) _ g)) in
+      subst (Cleared base i (suc n) P w) (sym (rows-more nextRow one row-on i (i + suc n) w (omega arith))) (record {
+        kept = kept-trans k (z .kept);
+        words = z .words;
+        apart = λ j m. z .apart j (omega arith) ∙ getD-set-other w (base + i) j _ 0 (λ q. omega arith);
+        beyond = λ j m. z .beyond j m ∙ getD-set-other w (base + i) j _ 0 (λ q. omega arith);
+        there = λ a m p. at z a (eqb a i) refl m p;
+      })
     where
-      head : (h : ℕ) (t : Bool) → eqb h i ≡ t → getD bare (8_192 + h) 0 % 8_192 ≡ getD w (8_192 + h) 0 % 8_192
-      head h true e = subst (λ h. getD bare (8_192 + h) 0 % 8_192 ≡ getD w (8_192 + h) 0 % 8_192) (sym (eqb-true h i e)) (omega (arith, bare-same))
-      head h false e = ap (λ x. x % 8_192) (bare-other (8_192 + h) (λ p. eqb-false h i e (omega arith)))
+      at : Cleared base (i + 1) n P (one i w) (rowsTo nextRow one (i + 1) (i + suc n) (one i w)) → (a : ℕ) (t : Bool) → eqb a i ≡ t → i ≤ a → a < i + suc n
+          → P (getD (rowsTo nextRow one (i + 1) (i + suc n) (one i w)) (base + a) 0)
+      at z a true e m p =
+          let d : a ≡ i = eqb-true a i e in
+          subst P (sym (z .apart (base + a) (omega arith) ∙ ap (λ j. getD (one i w) (base + j) 0) d ∙ getD-set-same w (base + i) _ 0 (omega arith))) (good _)
+      at z a false e m p = z .there a (let d : a ≢ i = eqb-false a i e in omega arith) (omega arith)
 
--- n rows from row i on are clear, and those before are as they were
-record Clear (i n : ℕ) (w v : List ℕ) : Type 0 where
+-- of the first n rows: of a third number the head stays, of a fourth nothing
+record Clear (n : ℕ) (w v : List ℕ) : Type 0 where
   kept : Kept w v
   words : Words v
   lambdas : (a : ℕ) → a < 4_096 → lambdaEnd v a ≡ lambdaEnd w a
-  heads : (a : ℕ) → i ≤ a → a < i + n → getD v (8_192 + a) 0 < 8_192
-  stamps : (a : ℕ) → i ≤ a → a < i + n → stampAt v a ≡ 0
-  headsBefore : (a : ℕ) → a < i → getD v (8_192 + a) 0 ≡ getD w (8_192 + a) 0
-  stampsBefore : (a : ℕ) → a < i → stampAt v a ≡ stampAt w a
+  heads : (a : ℕ) → a < n → getD v (8_192 + a) 0 < 8_192
+  stamps : (a : ℕ) → a < n → stampAt v a ≡ 0
 
-fresh-clear : (n i : ℕ) (w : List ℕ) → i + n ≤ 4_096 → 16_384 ≤ length w → Words w → Clear i n w (fresh n i w)
-unfolding fresh
-fresh-clear zero i w l room g = record {
-  kept = kept-refl w;
-  words = g;
-  lambdas = λ a m. refl;
-  heads = λ a m k. absurd (omega arith);
-  stamps = λ a m k. absurd (omega arith);
-  headsBefore = λ a m. refl;
-  stampsBefore = λ a m. refl;
-}
-fresh-clear (suc n) i w l room g =
-    let few : i < 4_096 = omega arith in
-    let u : List ℕ = bare w i few room in
-    let v : List ℕ = putStamp u i 0 in
-    let k : Kept w u = bare-kept w i few room in
-    let k₁ : Kept w v = kept-trans k (kept-stamp u i 0) in
-    let z : Clear (i + 1) n v (fresh n (i + 1) v) = fresh-clear n (i + 1) v (omega arith) (omega (arith, k₁ .long)) (words-stamp u i 0 (words-put w (headBase + i) _ g)) in
+all-clear : (n : ℕ) (w : List ℕ) → n ≤ 4_096 → 16_384 ≤ length w → Words w → Clear n w (unstamped n (unmarked n w))
+all-clear n w l room g =
+    let e : 0 + n ≡ n = omega arith in
+    let p : Cleared 8_192 0 n (λ x. x < 8_192) w (unmarked n w) =
+    subst (λ stop. Cleared 8_192 0 n (λ x. x < 8_192) w (rowsTo nextRow bare 0 stop w)) e
+    (clear-rows 8_192 (λ x. x % 8_192) (λ x. x < 8_192) (λ x. omega arith) (λ i v m. bare-kept i v) (omega arith) n 0 w (omega arith) room g) in
+    let q : Cleared 12_288 0 n (λ x. x ≡ 0) (unmarked n w) (unstamped n (unmarked n w)) =
+    subst (λ stop. Cleared 12_288 0 n (λ x. x ≡ 0) (unmarked n w) (rowsTo nextRow blank 0 stop (unmarked n w))) e
+    (clear-rows 12_288 (λ _. 0) (λ x. x ≡ 0) (λ _. refl) (λ i v m. kept-fourth v i 0) (omega arith) n 0 (unmarked n w) (omega arith) (omega (arith, p .kept .long)) (p .words)) in
     record {
-      kept = kept-trans k₁ (z .kept);
-      words = z .words;
-      lambdas = λ a m. z .lambdas a m ∙ ap (λ x. x / 131_072) (stamp-apart u i 0 a (omega arith) ∙ bare-other w i few room a (λ e. omega arith));
-      heads = λ a m p. heads z a (eqb a i) refl m p;
-      stamps = λ a m p. stamps z a (eqb a i) refl m p;
-      headsBefore = λ a m. z .headsBefore a (omega arith) ∙ stamp-apart u i 0 (8_192 + a) (omega arith) ∙ bare-other w i few room (8_192 + a) (λ e. omega arith);
-      stampsBefore = λ a m. z .stampsBefore a (omega arith) ∙ stamp-other u i 0 a (λ e. omega arith) ∙ bare-other w i few room (12_288 + a) (λ e. omega arith);
+      kept = kept-trans (p .kept) (q .kept);
+      words = q .words;
+      lambdas = λ a m. ap (λ x. x / 131_072) (q .apart a (omega arith) ∙ p .apart a (omega arith));
+      heads = λ a m. subst (λ x. x < 8_192) (sym (q .apart (8_192 + a) (omega arith))) (p .there a (omega arith) (omega arith));
+      stamps = λ a m. ap (λ x. x % 8_192) (q .there a (omega arith) (omega arith));
     }
-  where
-    few : i < 4_096
-    few = omega arith
-
-    u : List ℕ
-    u = bare w i few room
-
-    heads : Clear (i + 1) n (putStamp u i 0) (fresh n (i + 1) (putStamp u i 0)) → (a : ℕ) (t : Bool) → eqb a i ≡ t → i ≤ a → a < i + suc n
-        → getD (fresh n (i + 1) (putStamp u i 0)) (8_192 + a) 0 < 8_192
-    heads z a true e m p =
-        let d : a ≡ i = eqb-true a i e in
-        let h : getD (fresh n (i + 1) (putStamp u i 0)) (8_192 + a) 0 ≡ getD w (headBase + i) 0 % 8_192 =
-        z .headsBefore a (omega arith) ∙ stamp-apart u i 0 (8_192 + a) (omega arith) ∙ ap (λ j. getD u (8_192 + j) 0) d ∙ bare-same w i few room in
-        omega arith
-    heads z a false e m p = z .heads a (let d : a ≢ i = eqb-false a i e in omega arith) (omega arith)
-
-    stamps : Clear (i + 1) n (putStamp u i 0) (fresh n (i + 1) (putStamp u i 0)) → (a : ℕ) (t : Bool) → eqb a i ≡ t → i ≤ a → a < i + suc n
-        → stampAt (fresh n (i + 1) (putStamp u i 0)) a ≡ 0
-    stamps z a true e m p =
-        let d : a ≡ i = eqb-true a i e in
-        z .stampsBefore a (omega arith) ∙ ap (stampAt (putStamp u i 0)) d ∙ stamp-same u i 0 (omega (arith, bare-kept w i few room .long)) few (omega arith)
-    stamps z a false e m p = z .stamps a (let d : a ≢ i = eqb-false a i e in omega arith) (omega arith)
 
 -- 4,096 is the number of no name
 defined-none : (s : ScopeStack) (w : List ℕ) (a : ℕ) → s .inner ≡ 0 → 4_096 ≤ a → defined s w a ≡ w
@@ -151,10 +137,10 @@ mem-past x p (q ∷ ps) qs =
 -- rows of the module before the first statement, with these names in view
 module _ (text : Bytes) (rows : List Row) (num : Bytes → ℕ) where
   abbrev G : List Part → List ℕ → List ℕ → Type 0
-  G vs w v = Done text rows num [] (atModule (length rows)) moduleEnv vs [] [] w v 0 0
+  G vs w v = Done text rows num noOwnNames (atModule (length rows)) moduleEnv vs [] [] w v 0 0
 
   abbrev A : List Part → List ℕ → Type 0
-  A vs w = At text rows num [] (atModule (length rows)) [] moduleEnv vs [] w 0
+  A vs w = At text rows num noOwnNames (atModule (length rows)) [] moduleEnv vs [] w 0
 
   none : {B : Type 0} → inModule ≡ inDef → B
   none i = absurd (omega (arith, ap homeNumber i))
@@ -169,7 +155,7 @@ module _ (text : Bytes) (rows : List Row) (num : Bytes → ℕ) where
       home = d .after .home;
       view = λ x l. subst (Open (length rows) 0 (blockEnd v (num x))) (e x l) (d .after .view x l);
       params = d .after .params;
-      own = d .after .own;
+      flags = d .after .flags;
       locals = d .after .locals;
       others = d .after .others;
       low = d .after .low;
@@ -178,6 +164,7 @@ module _ (text : Bytes) (rows : List Row) (num : Bytes → ℕ) where
     };
     slots = d .slots;
     change = d .change;
+    beyond = d .beyond;
   }
 
   stays : {ps : List Part} {w : List ℕ} → A ps w → G ps w w
@@ -233,11 +220,15 @@ module _ (text : Bytes) (t : Tree) (num : Bytes → ℕ) (w : List ℕ) (table :
   abbrev pub started : List ℕ
   started = begun text (atModule R) first R w
 
-  clears : Clear 0 R w (fresh R 0 w)
-  clears = fresh-clear R 0 w (omega (arith, table .few)) (table .room) words
+  -- and before the given names are bound
+  abbrev cleared : List ℕ
+  cleared = unstamped R (unmarked R w)
+
+  clears : Clear R w cleared
+  clears = all-clear R w (table .few) (table .room) words
 
   -- nothing is bound yet
-  empty : A text (rowsT t) num [] (fresh R 0 w)
+  empty : A text (rowsT t) num [] cleared
   empty =
       let few = table .few in
       let z = clears in
@@ -245,13 +236,13 @@ module _ (text : Bytes) (t : Tree) (num : Bytes → ℕ) (w : List ℕ) (table :
         table = table-kept (z .kept) table;
         words = z .words;
         home = refl;
-        view = λ x l. record { far = λ e. absurd (false≢true e); closed = λ _. omega (arith, z .heads (num x) (omega arith) (omega (arith, small x l))) };
+        view = λ x l. record { far = λ e. absurd (false≢true e); closed = λ _. omega (arith, z .heads (num x) (small x l)) };
         params = λ x l. record { far = λ e. absurd (false≢true e); closed = λ _. omega (arith, z .lambdas (num x) l, closed (num x) (small x l)) };
-        own = λ i. none text (rowsT t) num i;
+        flags = λ i. none text (rowsT t) num i;
         locals = λ i. none text (rowsT t) num i;
         others = λ _ x. refl;
-        low = λ x l. omega (arith, z .stamps (num x) (omega arith) (omega (arith, small x l)));
-        clean = λ i _ l. omega (arith, z .heads i (omega arith) (omega arith));
+        low = λ x l. omega (arith, z .stamps (num x) (small x l));
+        clean = λ i _ l. omega (arith, z .heads i l);
         places = tt;
       }
 
@@ -259,7 +250,7 @@ module _ (text : Bytes) (t : Tree) (num : Bytes → ℕ) (w : List ℕ) (table :
   everything = record { post = []; same = sym (append-nil (rowsT t)) }
 
   -- the given names are in view
-  bound : G text (rowsT t) num (builtinNames ++ t .globals) (fresh R 0 w) started
+  bound : G text (rowsT t) num (builtinNames ++ t .globals) cleared started
   unfolding begun
   bound =
       let b = given-done text (rowsT t) num builtinNames (somes builtinNames refl) empty in
@@ -277,24 +268,18 @@ module _ (text : Bytes) (t : Tree) (num : Bytes → ℕ) (w : List ℕ) (table :
       let z : 0 + first ≡ first = omega arith in
       subst (λ i. Here (rowsT t) i (rowsSs (t .body))) z (here-past {a = map globalRow (t .globals)} (record { count = length-map (t .globals) globalRow }) (rowsSs (t .body)) everything)
 
-  pub statements : Done text (rowsT t) num [] (atModule R) moduleEnv (afterSs (t .body) (startState t) .view) [] (rawSs (t .body) (firstLine t) [] moduleEnv (startState t))
+  pub statements : Done text (rowsT t) num noOwnNames (atModule R) moduleEnv (afterSs (t .body) (startState t) .view) [] (rawSs (t .body) (firstLine t) [] moduleEnv (startState t))
       started (walked text first R w) first (first + lenSs (t .body))
   unfolding walked
   statements =
       let size : R ≡ first + lenSs (t .body) = rows-length t in
       let few = table .few in
-      let top : Done text (rowsT t) num [] (atModule R) moduleEnv (startState t .view) [] [] started started 0 first =
+      let top : Done text (rowsT t) num noOwnNames (atModule R) moduleEnv (startState t .view) [] [] started started 0 first =
       done-skip (bound .after) (omega arith) (omega arith) in
-      let b : Block (rowsT t) [] (atModule R) moduleEnv = record {
-        flat = record { outer = refl; inner = refl; params = refl };
-        room = omega arith;
-        line = noRow .line;
-        body = snil;
-        inside = none text (rowsT t) num;
-      } in
+      let b : Block (rowsT t) noOwnNames (atModule R) moduleEnv = record { flat = record { outer = refl; inner = refl; params = refl }; room = omega arith } in
       looped-end (λ z. rows-end afterRow (walkLine R text (atModule R)) (first + lenSs (t .body)) R z (omega arith))
       (stmts text (rowsT t) num (t .body) R first (firstLine t) R b (omega arith) (omega arith)
-      body worded (record { at = top .after; past = none text (rowsT t) num; viewed = none text (rowsT t) num }) (none text (rowsT t) num))
+      body worded (top .after) (none text (rowsT t) num) (none text (rowsT t) num))
 
   pub started-kept : Kept w started
   started-kept = kept-trans (clears .kept) (bound .change .kept)

@@ -1,11 +1,11 @@
 -- What holds at each row of the walk: the marks that are open are those of the names in view and of the parameters of the lambdas around; the
--- stamps are those of the def around; no row from here on has a slot.
+-- flags from here on are those that the def around was opened with; no stamp is of a later def, and no row from here on has a slot.
 -- A mark is either open up to the end of the block around, at least, or closed already: this is what leaving a block has to keep.
-use Prim.Native.Nat.{ℕ, suc, _+_, _/_, _%_, _≤_, _<_, max}
+use Prim.Native.Nat.{ℕ, suc, _≤_, _<_, max}
 use mathlib.Core.Path.{_≡_}
 use mathlib.Core.Bool.{Bool, true, false, _&&_, _||_}
 use mathlib.Core.List.{List, [], _∷_}
-use lib.Dec.{eqb, leb}
+use lib.Dec.{eqb}
 use lib.ListN.{length}
 use Rattle.spec_text.specs.Bytes.{Bytes, Part, mem, same, any}
 use Rattle.spec_faults.specs.Position.{Placed, Home, inModule, inDef, inMethod}
@@ -13,11 +13,11 @@ use Rattle.spec_faults.specs.Faults.{Fault, outermost}
 use Rattle.spec_faults.proofs.Lists.{Each}
 use Rattle.spec_faults.proofs.ListingWalk.{Env}
 use Rattle.work_rows.specs.Rows.{Row}
-use Rattle.work_marks.specs.MarksModel.{lambdaEnd, blockEnd, slotAt, stampAt}
+use Rattle.work_marks.specs.MarksModel.{lambdaEnd, blockEnd, slotAt, stampAt, flagAt}
 use Rattle.work_marks.proofs.Writes.{Words}
 use Rattle.walk_scopes.specs.declared.ScopeStack.{ScopeStack}
 use Rattle.proof_walk.specs.Table.{Table}
-use Rattle.proof_walk.specs.Notes.{Note, noteOf, assignedBy}
+use Rattle.proof_walk.specs.Notes.{OwnNames, noteOf}
 
 -- the stack's number of a home
 abbrev pub homeNumber : Home → ℕ
@@ -35,16 +35,6 @@ pub record Raised (end old new : ℕ) : Type 0 where
   pub up : old ≤ new
   pub most : new ≤ max old end
 
--- the stamps of the def at row b, which has these notes
-pub record Stamped (num : Bytes → ℕ) (w : List ℕ) (b : ℕ) (ns : List Note) : Type 0 where
-  pub own : (x : Bytes) → num x < 4_096 → eqb (stampAt w (num x) / 8_192) (b + 1) ≡ noteOf ns x
-  pub first : (x : Bytes) → num x < 4_096 → noteOf ns x ≡ true → (r : ℕ) → r < 8_191 → leb (stampAt w (num x) % 8_192) r ≡ assignedBy ns x r
-
--- each stamp of that def is right, though some may be missing
-pub record Fair (num : Bytes → ℕ) (w : List ℕ) (b : ℕ) (ns : List Note) : Type 0 where
-  pub own : (x : Bytes) → num x < 4_096 → stampAt w (num x) / 8_192 ≡ b + 1 → noteOf ns x ≡ true
-  pub first : (x : Bytes) → num x < 4_096 → stampAt w (num x) / 8_192 ≡ b + 1 → (r : ℕ) → r < 8_191 → leb (stampAt w (num x) % 8_192) r ≡ assignedBy ns x r
-
 -- a name that the lambda at this line was blamed for
 abbrev pub blamed : ℕ → List Fault → Bytes → Bool
 blamed place seen x = any (λ (g : Fault). eqb (g .place) place && same x (g .name .bytes)) seen
@@ -59,15 +49,15 @@ abbrev pub Places : ℕ → List Fault → Type 0
 Places r seen = Each (λ (g : Fault). (0 < g .place) × (g .place < suc (suc r))) seen
 
 -- at row r, where the names vs are in view
-pub record At (text : Bytes) (rows : List Row) (num : Bytes → ℕ) (ns : List Note) (s : ScopeStack) (ls : List Placed) (v : Env) (vs : List Part) (seen : List Fault) (w : List ℕ) (r : ℕ) : Type 0 where
+pub record At (text : Bytes) (rows : List Row) (num : Bytes → ℕ) (own : OwnNames) (s : ScopeStack) (ls : List Placed) (v : Env) (vs : List Part) (seen : List Fault) (w : List ℕ) (r : ℕ) : Type 0 where
   pub table : Table text rows num w
   pub words : Words w
   pub home : s .home ≡ homeNumber (v .home)
   pub view : (x : Bytes) → num x < 4_096 → Open (s .end) r (blockEnd w (num x)) (mem x vs)
   pub params : (x : Bytes) → num x < 4_096 → Open (s .inner) r (lambdaEnd w (num x)) (mem x (v .params) || blamed (placeOf ls) seen x)
-  pub own : v .home ≡ inDef → Stamped num w (s .block) ns
-  pub locals : v .home ≡ inDef → (x : Bytes) → mem x (v .locals) ≡ noteOf ns x
+  pub flags : v .home ≡ inDef → (i : ℕ) → r ≤ i → i < length rows → flagAt w i ≡ own .flags i
+  pub locals : v .home ≡ inDef → (x : Bytes) → mem x (v .locals) ≡ noteOf (own .notes) x
   pub others : (v .home ≡ inDef → ⊥) → (x : Bytes) → mem x (v .locals) ≡ false
-  pub low : (x : Bytes) → num x < 4_096 → stampAt w (num x) / 8_192 ≤ r
+  pub low : (x : Bytes) → num x < 4_096 → stampAt w (num x) ≤ r
   pub clean : (i : ℕ) → r ≤ i → i < length rows → slotAt w i ≡ 0
   pub places : Places r seen

@@ -1,6 +1,5 @@
--- The walk of statements: the slots of their rows are their faults, and after them the names in view and the stamps are those of the state
--- after them. By recursion over statements: each is a chain of steps (`Done`), and a list of lines is one loop.
-use Prim.Native.Nat.{ℕ, suc, _+_, _-_, _/_, _≤_, _<_}
+-- The walk of statements: the slots of their rows are their faults, and after them the names in view are those of the state after them. By recursion over statements: each is a chain of steps (`Done`), and a list of lines is one loop.
+use Prim.Native.Nat.{ℕ, suc, _+_, _-_, _≤_, _<_}
 use native.Mathlib.Omega.{arith}
 use mathlib.Core.Path.{_≡_, refl, sym, ap, _∙_, subst}
 use mathlib.Core.Bool.{Bool, true, false, cond, not}
@@ -16,68 +15,72 @@ use Rattle.spec_faults.proofs.Deduped.{seenAfter}
 use Rattle.work_rows.specs.Layout.{kindAt, afterRow}
 use Rattle.work_rows.specs.Rows.{Row, row, rowsE, rowsEs, rowsAs, rowsS, rowsSs, rowsMs}
 use Rattle.work_rows.proofs.Lengths.{sized-e, sized-s, sized-ss, sized-ms}
-use Rattle.work_marks.specs.MarksModel.{stampAt, putSlot}
+use Rattle.work_marks.specs.MarksModel.{stampAt, flagAt, putSlot}
 use Rattle.work_rows.proofs.Loops.{rows-end}
-use Rattle.work_marks.proofs.Writes.{raised-block-stamp}
+use Rattle.work_marks.proofs.Writes.{raised-block-fourth}
 use Rattle.walk_scopes.specs.ScopesModel.{aDef, aMethod, module′, pushed, defined}
 use Rattle.walk_scopes.specs.declared.ScopeStack.{ScopeStack}
 use Rattle.walk_scopes.proofs.Define.{defined-block}
 use Rattle.read_row.specs.Worded.{Somes, WordedE, WordedEs, WordedAs, WordedS, WordedSs, WordedMs}
-use Rattle.walk_blocks.specs.BlocksModel.{opened, reopened}
+use Rattle.walk_blocks.specs.BlocksModel.{opened}
 use Rattle.walk_tree.specs.WalkModel.{nextTarget, targetAt, walkExpr, walkStmt, walkLine}
 use Rattle.proof_walk.specs.Table.{ParamWord, method, Table, Here}
-use Rattle.proof_walk.specs.Notes.{Note, notesS, notesSs, notesD}
-use Rattle.proof_walk.proofs.State.{homeNumber}
+use Rattle.proof_walk.specs.Notes.{OwnNames, noOwnNames, notesS, notesSs, notesD, Told, ToldS, ToldSs}
+use Rattle.proof_walk.proofs.State.{homeNumber, At}
 use Rattle.proof_walk.proofs.PartRows.{here-tail, here-left, here-past, row-few, row-kind, row-after, row-number, row-small, row-params, after-E, after-S}
 use Rattle.proof_walk.proofs.WordTests.{simple-test, block-test}
-use Rattle.proof_walk.proofs.Noted.{fair-new}
 use Rattle.proof_walk.proofs.Assigned.{Assigns, stmts-first, stmts-rest, assign-still, assign-target, block-still, block-body, choice-still, choice-body, choice-elifs, choice-else, for-still, for-body, none-still, cut, def-body, locals}
 use Rattle.proof_walk.proofs.Opened.{OpenedDef, opened-def, opened-method}
 use Rattle.proof_walk.proofs.Exprs.{Still, word-E, expr-walked}
 use Rattle.proof_walk.proofs.Done.{Done, Spans, done-then, done-skip, done-fault, done-bind, done-to, Looped, looped-one, looped-then, looped-to, looped-end}
 use Rattle.proof_walk.proofs.Targets.{target}
-use Rattle.proof_walk.proofs.Nested.{reopened-at, Entry, entry-def, entry-method, Block, Ready, ready-on, enter, nested}
+use Rattle.proof_walk.proofs.Nested.{Entry, entry-def, entry-method, Block, enter, nested}
 use Rattle.proof_walk.proofs.ByKind.{some-stmt, stmt-kind, plain, kids, at-plain, at-assign, at-for, at-def, at-class, at-method, at-attr, line-stmt, line-expr}
+
+-- what the def at row r is opened with, where z is the buffer then
+abbrev def-own : Line → Stmts → ℕ → List ℕ → OwnNames
+def-own l bd r z = record { notes = notesD l bd r; flags = flagAt z }
 
 module _ (text : Bytes) (rows : List Row) (num : Bytes → ℕ) where
   -- ---- in one block
-  module _ {ns : List Note} {s : ScopeStack} {v : Env} (b : Block rows ns s v) (k : ℕ) where
+  module _ {own : OwnNames} {s : ScopeStack} {v : Env} (b : Block rows own s v) (k : ℕ) where
     abbrev D : List Part → List Fault → List Fault → List ℕ → List ℕ → ℕ → ℕ → Type 0
-    D = Done text rows num ns s v
+    D = Done text rows num own s v
 
     abbrev L : ℕ → List Part → List Fault → List Fault → List ℕ → ℕ → ℕ → Type 0
-    L stop = Looped text rows num ns s v (kids text k s stop)
+    L stop = Looped text rows num own s v (kids text k s stop)
 
     abbrev R : List Part → List Fault → List ℕ → ℕ → Type 0
-    R = Ready text num b
+    R = At text rows num own s [] v
 
     -- the row of a statement that has no fault and binds nothing
     head : {vs : List Part} {seen : List Fault} {w : List ℕ} {r : ℕ} → R vs seen w r → suc r ≤ s .end → D vs seen [] w w r (suc r)
-    head h l = done-skip (h .at) (omega arith) (omega (arith, b .room))
+    head h l = done-skip h (omega arith) (omega (arith, b .room))
 
     expr-done : (e : Expr) (r n : ℕ) (st : State) {seen : List Fault} {w : List ℕ} → Spans (lenE e) k r n (s .end) → Here rows r (rowsE e) → WordedE e
-        → R (st .view) seen w r → Still ns v st r (r + lenE e) → D (st .view) seen (rawE e n value [] v st) w (walkExpr k text false s r w) r (r + lenE e)
-    expr-done e r n st f here d h still =
-        done-to refl (ap (λ i. rawE e i value [] v st) (sym (f .line))) (expr-walked k r st (b .flat) (h .at) e here d (f .depth) (f .inside) (b .room) still)
+        → R (st .view) seen w r → Still own v st r (r + lenE e) → (v .home ≡ inDef → Told rows own r (r + lenE e)) → D (st .view) seen (rawE e n value [] v st) w (walkExpr k text false s r w) r (r + lenE e)
+    expr-done e r n st f here d h still told =
+        done-to refl (ap (λ i. rawE e i value [] v st) (sym (f .line))) (expr-walked k r st (b .flat) h e here d (f .depth) (f .inside) (b .room) still told)
 
     -- the same as a line of a loop
     expr-looped : (e : Expr) (r n stop : ℕ) (st : State) {seen : List Fault} {w : List ℕ} → Spans (lenE e) k r n stop → stop ≤ s .end
-        → Here rows r (rowsE e) → WordedE e → R (st .view) seen w r → Still ns v st r (r + lenE e) → L stop (st .view) seen (rawE e n value [] v st) w r (r + lenE e)
-    expr-looped e r n stop st {w = w} f m here d h still =
-        looped-one (line-expr text k s stop r w (omega arith) (r + lenE e) (after-E (h .at .table) e here) (word-E (h .at .table) e here d))
-        (expr-done e r n st (omega arith) here d h still)
+        → Here rows r (rowsE e) → WordedE e → R (st .view) seen w r → Still own v st r (r + lenE e) → (v .home ≡ inDef → Told rows own r (r + lenE e)) → L stop (st .view) seen (rawE e n value [] v st) w r (r + lenE e)
+    expr-looped e r n stop st {w = w} f m here d h still told =
+        looped-one (line-expr text k s stop r w (omega arith) (r + lenE e) (after-E (h .table) e here) (word-E (h .table) e here d))
+        (expr-done e r n st (omega arith) here d h still told)
 
     exprs-looped : (es : Exprs) (r n stop : ℕ) {st : State} {seen : List Fault} {w : List ℕ} → Spans (lenEs es) k r n stop → stop ≤ s .end
-        → Here rows r (rowsEs es) → WordedEs es → R (st .view) seen w r → (v .home ≡ inDef → Assigns ns (st .assigned) [] r (r + lenEs es))
+        → Here rows r (rowsEs es) → WordedEs es → R (st .view) seen w r → (v .home ≡ inDef → Assigns (own .notes) (st .assigned) [] r (r + lenEs es))
+        → (v .home ≡ inDef → Told rows own r (r + lenEs es))
         → L stop (st .view) seen (rawEs es n [] v st) w r (r + lenEs es)
-    exprs-looped enil r n stop {w = w} f m here d h by =
+    exprs-looped enil r n stop {w = w} f m here d h by told =
         let e : r ≡ r + 0 = omega arith in
-        looped-one (ap (λ i. kids text k s stop i w) e) (done-skip (h .at) (omega arith) (omega (arith, b .room)))
-    exprs-looped (econs e es) r n stop {st} {seen} {w} f m here d h by =
-        let first = expr-looped e r n stop st (omega arith) m (here-left (rowsE e) (rowsEs es) here) (d .0) h (λ i x z u y. none-still (by i) x z u (omega arith)) in
+        looped-one (ap (λ i. kids text k s stop i w) e) (done-skip h (omega arith) (omega (arith, b .room)))
+    exprs-looped (econs e es) r n stop {st} {seen} {w} f m here d h by told =
+        let first = expr-looped e r n stop st (omega arith) m (here-left (rowsE e) (rowsEs es) here) (d .0) h (λ i x z u y. none-still (by i) x z u (omega arith)) (λ i z u y. told i z u (omega arith)) in
         looped-to (omega arith) refl (looped-then (first .goes) (first .done)
-        (exprs-looped es (r + lenE e) (n + lenE e) stop (omega arith) m (here-past (sized-e e) (rowsEs es) here) (d .1) (ready-on b h (first .done))
-        (λ i. cut (by i) (r + lenE e) (r + lenE e + lenEs es) (omega arith) (omega arith))))
+        (exprs-looped es (r + lenE e) (n + lenE e) stop (omega arith) m (here-past (sized-e e) (rowsEs es) here) (d .1) ((first .done .after))
+        (λ i. cut (by i) (r + lenE e) (r + lenE e + lenEs es) (omega arith) (omega arith)) (λ i z u y. told i z (omega arith) (omega arith))))
 
     -- the lines below the row r of a plain statement are one loop
     plain-done : (l : Line) (below : ℕ) (part : List Row) (r : ℕ) {us vs : List Part} {seen fs : List Fault} {w : List ℕ} → plain (l .word) ≡ true → Here rows r (row l below ∷ part)
@@ -85,52 +88,47 @@ module _ (text : Bytes) (rows : List Row) (num : Bytes → ℕ) where
         → D vs seen fs w (walkStmt (suc k) text s r w) r (r + suc below)
     plain-done l below part r {us} {vs} {seen} {fs} {w} p here h d {e} q g =
         subst (λ z. D vs seen fs w z r (r + suc below))
-        (sym (at-plain text k s r w (row-few (h .at .table) here) (r + suc below) (row-after (h .at .table) here) (ap plain (row-kind (h .at .table) here) ∙ p)))
+        (sym (at-plain text k s r w (row-few (h .table) here) (r + suc below) (row-after (h .table) here) (ap plain (row-kind (h .table) here) ∙ p)))
         (done-then d (looped-end (λ z. rows-end afterRow (walkLine k text s) (r + suc below) (r + suc below) z (omega arith)) (looped-to q refl g)))
 
     -- a plain statement whose first line is an expression
     test-done : (l : Line) (e : Expr) (below : ℕ) (part : List Row) (r n : ℕ) (st : State) {vs : List Part} {seen gs : List Fault} {w : List ℕ} → plain (l .word) ≡ true
-        → Spans (suc below) (suc k) r n (s .end) → lenE e ≤ below → Here rows r (row l below ∷ (rowsE e ++ part)) → WordedE e → R (st .view) seen w r → Still ns v st (suc r) (suc r + lenE e)
+        → Spans (suc below) (suc k) r n (s .end) → lenE e ≤ below → Here rows r (row l below ∷ (rowsE e ++ part)) → WordedE e → R (st .view) seen w r → Still own v st (suc r) (suc r + lenE e)
+        → (v .home ≡ inDef → Told rows own r (suc r + lenE e))
         → ((z : List ℕ) → R (st .view) (seenAfter seen (rawE e (suc n) value [] v st)) z (suc r + lenE e)
         → L (r + suc below) vs (seenAfter seen (rawE e (suc n) value [] v st)) gs z (suc r + lenE e) (r + suc below))
         → D vs seen (rawE e (suc n) value [] v st ++ gs) w (walkStmt (suc k) text s r w) r (r + suc below)
-    test-done l e below part r n st {vs} {seen} {gs} {w} p f o here d h still rest =
+    test-done l e below part r n st {vs} {seen} {gs} {w} p f o here d h still told rest =
         let top : D (st .view) seen [] w w r (suc r) = head h (omega arith) in
-        let h₁ : R (st .view) seen w (suc r) = ready-on b h top in
-        let test = expr-looped e (suc r) (suc n) (r + suc below) st (omega arith) (f .inside) (here-left (rowsE e) part (here-tail here)) d h₁ still in
-        plain-done l below (rowsE e ++ part) r p here h top refl (looped-then (test .goes) (test .done) (rest (test .there) (ready-on b h₁ (test .done))))
+        let h₁ : R (st .view) seen w (suc r) = top .after in
+        let test = expr-looped e (suc r) (suc n) (r + suc below) st (omega arith) (f .inside) (here-left (rowsE e) part (here-tail here)) d h₁ still (λ i z u y. told i z (omega arith) y) in
+        plain-done l below (rowsE e ++ part) r p here h top refl (looped-then (test .goes) (test .done) (rest (test .there) (test .done .after)))
 
     -- ---- a def: its name is bound, and its body is a block of its own
-    abbrev def-block : (l : Line) (bd : Stmts) (r : ℕ) → Here rows r (rowsS (def l bd)) → WordedS (def l bd) → r + lenS (def l bd) ≤ s .end
-        → Block rows (notesD l bd r) (pushed s aDef r (r + lenS (def l bd))) (defEnv l bd)
-    def-block l bd r here d m = record {
+    abbrev def-block : (l : Line) (bd : Stmts) (r : ℕ) (z : List ℕ) → r + lenS (def l bd) ≤ s .end → Block rows (def-own l bd r z) (pushed s aDef r (r + lenS (def l bd))) (defEnv l bd)
+    def-block l bd r z m = record {
       flat = record { outer = refl; inner = refl; params = refl };
       room = omega (arith, b .room);
-      line = l;
-      body = bd;
-      inside = λ _. record { here = here; worded = d; notes = refl; end = refl };
     }
 
     def-done : (l : Line) (bd : Stmts) (r : ℕ) {us vs : List Part} {seen gs : List Fault} {w : List ℕ} (here : Here rows r (rowsS (def l bd))) (d : WordedS (def l bd))
         (m : r + lenS (def l bd) ≤ s .end) → R us seen w r
-        → ((z : List ℕ) → Ready text num (def-block l bd r here d m) (l .params ++ (l .name ∷ us)) seen z (suc r)
-        → Looped text rows num (notesD l bd r) (pushed s aDef r (r + lenS (def l bd))) (defEnv l bd) (kids text k (pushed s aDef r (r + lenS (def l bd))) (r + lenS (def l bd)))
+        → ((z : List ℕ) → At text rows num (def-own l bd r z) (pushed s aDef r (r + lenS (def l bd))) [] (defEnv l bd) (l .params ++ (l .name ∷ us)) seen z (suc r)
+        → ToldSs rows (def-own l bd r z) bd (suc r)
+        → Looped text rows num (def-own l bd r z) (pushed s aDef r (r + lenS (def l bd))) (defEnv l bd) (kids text k (pushed s aDef r (r + lenS (def l bd))) (r + lenS (def l bd)))
         vs seen gs z (suc r) (r + lenS (def l bd)))
         → D (l .name ∷ us) seen gs w (walkStmt (suc k) text s r w) r (r + lenS (def l bd))
     def-done l bd r {us} {vs} {seen} {gs} {w} here d m h rest =
         subst (λ z. D (l .name ∷ us) seen gs w z r stop)
         (sym (at-def text k s r w (row-few at here) stop (row-after at here) (row-kind at here ∙ d .0) (num (l .name .bytes)) (row-number at here (d .1 .0))))
-        (nested b h p q refl refl (inner .flat)
-        (looped-end (λ z. rows-end afterRow (walkLine k text (pushed s aDef r stop)) stop stop z (omega arith)) (rest w₂ ready)) m)
+        (nested b h p q refl (def-block l bd r w₂ m .flat)
+        (looped-end (λ z. rows-end afterRow (walkLine k text (pushed s aDef r stop)) stop stop z (omega arith)) (rest w₂ inside (o .told (p .after .words)))) m)
       where
         stop : ℕ
         stop = r + lenS (def l bd)
 
         at : Table text rows num w
-        at = h .at .table
-
-        inner : Block rows (notesD l bd r) (pushed s aDef r stop) (defEnv l bd)
-        inner = def-block l bd r here d m
+        at = h .table
 
         w₁ : List ℕ
         w₁ = defined s w (num (l .name .bytes))
@@ -139,53 +137,46 @@ module _ (text : Bytes) (rows : List Row) (num : Bytes → ℕ) where
         w₂ = opened text (pushed s aDef r stop) r stop w₁
 
         p : D (l .name ∷ us) seen [] w w₁ r (suc r)
-        p = done-bind (h .at) (l .name) (b .flat .inner) (omega (arith, b .room, at .few)) (row-small at here (d .1 .0)) (omega arith) (omega (arith, b .room))
+        p = done-bind h (l .name) (b .flat .inner) (omega (arith, b .room, at .few)) (row-small at here (d .1 .0)) (omega arith) (omega (arith, b .room))
 
-        o : OpenedDef num stop r (l .params) (notesD l bd r) w₁ w₂
-        o = opened-def (pushed s aDef r stop) refl refl l bd (p .after .table) here d refl (omega (arith, b .room, at .few))
+        -- no stamp comes after this row yet
+        low : (x : Bytes) → num x < 4_096 → stampAt w₁ (num x) ≤ r
+        low x i = subst (λ z. stampAt z (num x) ≤ r) (sym (defined-block s w (num (l .name .bytes)) (b .flat .inner)))
+            (omega (arith, raised-block-fourth w (num (l .name .bytes)) (s .end) (num x), h .low x i))
+
+        o : OpenedDef rows num stop r (l .params) (notesD l bd r) bd w₁ w₂
+        o = opened-def (pushed s aDef r stop) refl refl l bd (p .after .table) here d refl (omega (arith, b .room, at .few)) low
 
         q : Entry num r stop (l .params) w₁ w₂
         q = entry-def (p .after .words) o
 
-        -- no stamp of this def is there yet
-        low : (x : Bytes) → num x < 4_096 → stampAt w₁ (num x) / 8_192 ≤ r
-        low x i = subst (λ z. stampAt z (num x) / 8_192 ≤ r) (sym (defined-block s w (num (l .name .bytes)) (b .flat .inner)))
-            (omega (arith, raised-block-stamp w (num (l .name .bytes)) (s .end) (num x), h .at .low x i))
-
-        ready : Ready text num inner (l .params ++ (l .name ∷ us)) seen w₂ (suc r)
-        ready = record {
-          at = enter b (notesD l bd r) (defEnv l bd) aDef p q m refl refl (λ _. o .stamped (fair-new low)) (λ _ x. sym (locals x l bd r)) (λ no. absurd (no refl));
-          past = λ _. omega arith;
-          viewed = λ _ x i. q .bound x i;
-        }
+        inside : At text rows num (def-own l bd r w₂) (pushed s aDef r stop) [] (defEnv l bd) (l .params ++ (l .name ∷ us)) seen w₂ (suc r)
+        inside = enter b (def-own l bd r w₂) (defEnv l bd) aDef p q m refl refl (λ _ i. refl) (λ _ x. sym (locals x l bd r)) (λ no. absurd (no refl))
 
     -- ---- a method of a class in the module: a block too, of which nothing is noted
-    abbrev method-block : (l : Line) (bd : Stmts) (r : ℕ) → r + suc (lenSs bd) ≤ s .end → Block rows [] (pushed s aMethod r (r + suc (lenSs bd))) methodEnv
-    method-block l bd r m = record {
+    abbrev method-block : (bd : Stmts) (r : ℕ) → r + suc (lenSs bd) ≤ s .end → Block rows noOwnNames (pushed s aMethod r (r + suc (lenSs bd))) methodEnv
+    method-block bd r m = record {
       flat = record { outer = refl; inner = refl; params = refl };
       room = omega (arith, b .room);
-      line = l;
-      body = bd;
-      inside = λ i. absurd (omega (arith, ap homeNumber i));
     }
 
     method-done : (l c : Line) (bd : Stmts) (part : List Row) (r n : ℕ) {us vs : List Part} {seen gs : List Fault} {w : List ℕ} (m : r + suc (lenSs bd) ≤ s .end) → n ≡ suc (suc r)
         → Here rows r (row l (lenSs bd) ∷ part) → l .word ≡ 14 → Somes (l .params) → v .home ≡ inModule → R us seen w r
-        → ((z : List ℕ) → Ready text num (method-block l bd r m) (l .params ++ us) (seenAfter seen (selfFault n l c)) z (suc r)
-        → Looped text rows num [] (pushed s aMethod r (r + suc (lenSs bd))) methodEnv (kids text k (pushed s aMethod r (r + suc (lenSs bd))) (r + suc (lenSs bd)))
+        → ((z : List ℕ) → At text rows num noOwnNames (pushed s aMethod r (r + suc (lenSs bd))) [] methodEnv (l .params ++ us) (seenAfter seen (selfFault n l c)) z (suc r)
+        → Looped text rows num noOwnNames (pushed s aMethod r (r + suc (lenSs bd))) methodEnv (kids text k (pushed s aMethod r (r + suc (lenSs bd))) (r + suc (lenSs bd)))
         vs (seenAfter seen (selfFault n l c)) gs z (suc r) (r + suc (lenSs bd)))
         → D us seen (selfFault n l c ++ gs) w (walkStmt (suc k) text s r w) r (r + suc (lenSs bd))
     method-done l c bd part r n {us} {vs} {seen} {gs} {w} m row here word some home h rest =
         subst (λ z. D us seen (selfFault n l c ++ gs) w z r stop)
-        (back ∙ sym (at-method text k s r w (row-few at here) stop (row-after at here) (row-kind at here ∙ word) (l .params) (row-params at here (subst ParamWord (sym word) method))))
-        (nested b h p q refl refl (method-block l bd r m .flat)
-        (looped-end (λ z. rows-end afterRow (walkLine k text (pushed s aMethod r stop)) stop stop z (omega arith)) (rest w₂ ready)) m)
+        (sym (at-method text k s r w (row-few at here) stop (row-after at here) (row-kind at here ∙ word) (l .params) (row-params at here (subst ParamWord (sym word) method))))
+        (nested b h p q refl (method-block bd r m .flat)
+        (looped-end (λ z. rows-end afterRow (walkLine k text (pushed s aMethod r stop)) stop stop z (omega arith)) (rest w₂ inside)) m)
       where
         stop : ℕ
         stop = r + suc (lenSs bd)
 
         at : Table text rows num w
-        at = h .at .table
+        at = h .table
 
         w₁ : List ℕ
         w₁ = cond (lacksSelf (l .params)) (putSlot w r 15) w
@@ -197,22 +188,15 @@ module _ (text : Bytes) (rows : List Row) (num : Bytes → ℕ) where
         p = go (lacksSelf (l .params))
           where
             go : (t : Bool) → D us seen (unless (not t) (selfless n l c)) w (cond t (putSlot w r 15) w) r (suc r)
-            go true = done-fault (h .at) (selfless n l c) refl row (omega arith) (omega arith) (omega arith) (omega (arith, b .room))
+            go true = done-fault h (selfless n l c) refl row (omega arith) (omega arith) (omega arith) (omega (arith, b .room))
             go false = head h (omega arith)
 
         q : Entry num r stop (l .params) w₁ w₂
-        q = entry-method (p .after .words)
+        q = entry-method (p .after .words) (p .after .low)
             (opened-method (pushed s aMethod r stop) refl (λ i. omega arith) (p .after .table) here word some (omega (arith, b .room, at .few)) stop)
 
-        back : reopened text s (kids text k (pushed s aMethod r stop) stop (suc r) w₂) ≡ kids text k (pushed s aMethod r stop) stop (suc r) w₂
-        back = reopened-at text s (kids text k (pushed s aMethod r stop) stop (suc r) w₂) (h .at .home ∙ ap homeNumber home)
-
-        ready : Ready text num (method-block l bd r m) (l .params ++ us) (seenAfter seen (selfFault n l c)) w₂ (suc r)
-        ready = record {
-          at = enter b [] methodEnv aMethod p q m refl refl none none (λ _ x. refl);
-          past = none;
-          viewed = λ _ x i. q .bound x i;
-        }
+        inside : At text rows num noOwnNames (pushed s aMethod r stop) [] methodEnv (l .params ++ us) (seenAfter seen (selfFault n l c)) w₂ (suc r)
+        inside = enter b noOwnNames methodEnv aMethod p q m refl refl none none (λ _ x. refl)
           where
             none : {A : Type 0} → inMethod ≡ inDef → A
             none i = absurd (omega (arith, ap homeNumber i))
@@ -241,147 +225,148 @@ module _ (text : Bytes) (rows : List Row) (num : Bytes → ℕ) where
         stop = r + lenS (class l ms ats)
 
         at : Table text rows num w
-        at = h .at .table
+        at = h .table
 
         w₁ : List ℕ
         w₁ = defined s w (num (l .name .bytes))
 
         named : (e : ℕ) → r ≤ e → e ≤ stop → D (l .name ∷ vs) seen [] w w₁ r e
-        named e p q = done-bind (h .at) (l .name) (b .flat .inner) (omega (arith, b .room, at .few)) (row-small at here (d .1 .0)) p (omega (arith, b .room))
+        named e p q = done-bind h (l .name) (b .flat .inner) (omega (arith, b .room, at .few)) (row-small at here (d .1 .0)) p (omega (arith, b .room))
 
         -- the test for the module
         walks : {hm : Home} → v .home ≡ hm → walkStmt (suc k) text s r w ≡ cond (eqb (homeNumber hm) module′) (kids text k s stop (suc r) w₁) w₁
         walks e =
             at-class text k s r w (row-few at here) stop (row-after at here) (row-kind at here ∙ d .0) (num (l .name .bytes)) (row-number at here (d .1 .0))
-            ∙ ap (λ n. cond (eqb n module′) (kids text k s stop (suc r) w₁) w₁) (h .at .home ∙ ap homeNumber e)
+            ∙ ap (λ n. cond (eqb n module′) (kids text k s stop (suc r) w₁) w₁) (h .home ∙ ap homeNumber e)
 
         go : (hm : Home) → v .home ≡ hm → D (l .name ∷ vs) seen (inClasses hm fs) w (walkStmt (suc k) text s r w) r stop
         go inDef e = subst (λ z. D (l .name ∷ vs) seen [] w z r stop) (sym (walks e)) (named stop (omega arith) (omega arith))
         go inMethod e = subst (λ z. D (l .name ∷ vs) seen [] w z r stop) (sym (walks e)) (named stop (omega arith) (omega arith))
         go inModule e =
             let top : D (l .name ∷ vs) seen [] w w₁ r (suc r) = named (suc r) (omega arith) (omega arith) in
-            let h₁ : R (l .name ∷ vs) seen w₁ (suc r) = ready-on b h top in
+            let h₁ : R (l .name ∷ vs) seen w₁ (suc r) = top .after in
             let ways : L stop (l .name ∷ vs) seen fs w₁ (suc r) (suc r + lenMs ms) = rest w₁ e h₁ in
-            let h₂ : R (l .name ∷ vs) (seenAfter seen fs) (ways .there) (suc r + lenMs ms) = ready-on b h₁ (ways .done) in
+            let h₂ : R (l .name ∷ vs) (seenAfter seen fs) (ways .there) (suc r + lenMs ms) = ways .done .after in
             let over : kids text k s stop (suc r + lenMs ms) (ways .there) ≡ ways .there =
-            attrs-over ats (suc r + lenMs ms) stop (h₂ .at .table) (here-past (sized-ms ms) (rowsAs ats) (here-tail here)) (d .1 .1 .1) (omega arith)
+            attrs-over ats (suc r + lenMs ms) stop (h₂ .table) (here-past (sized-ms ms) (rowsAs ats) (here-tail here)) (d .1 .1 .1) (omega arith)
             ∙ rows-end afterRow (walkLine k text s) (suc r + lenMs ms + lenAs ats) stop (ways .there) (omega arith) in
             subst (λ z. D (l .name ∷ vs) seen fs w z r stop) (sym (walks e ∙ ways .goes ∙ over))
             (done-to refl (append-nil fs) (done-then top (done-then (ways .done)
-            (done-skip (h₂ .at) (omega arith) (omega (arith, b .room))))))
+            (done-skip h₂ (omega arith) (omega (arith, b .room))))))
 
   -- ---- statements
   mutual
-    stmt : (t : Stmt) (k r n : ℕ) {ns : List Note} {s : ScopeStack} {v : Env} (b : Block rows ns s v) {st : State} {seen : List Fault} {w : List ℕ}
-        → Spans (lenS t) (suc k) r n (s .end) → Here rows r (rowsS t) → WordedS t → Ready text num b (st .view) seen w r
-        → (v .home ≡ inDef → Assigns ns (st .assigned) (notesS t r) r (r + lenS t))
-        → Done text rows num ns s v (afterS t st .view) seen (rawS t n [] v st) w (walkStmt (suc k) text s r w) r (r + lenS t)
-    stmt (simple l es) k r n b {st} f here d h by =
+    stmt : (t : Stmt) (k r n : ℕ) {own : OwnNames} {s : ScopeStack} {v : Env} (b : Block rows own s v) {st : State} {seen : List Fault} {w : List ℕ}
+        → Spans (lenS t) (suc k) r n (s .end) → Here rows r (rowsS t) → WordedS t → At text rows num own s [] v (st .view) seen w r
+        → (v .home ≡ inDef → Assigns (own .notes) (st .assigned) (notesS t r) r (r + lenS t)) → (v .home ≡ inDef → ToldS rows own t r)
+        → Done text rows num own s v (afterS t st .view) seen (rawS t n [] v st) w (walkStmt (suc k) text s r w) r (r + lenS t)
+    stmt (simple l es) k r n b {st} f here d h by told =
         let top = head b k h (omega arith) in
         plain-done b k l (lenEs es) (rowsEs es) r (simple-test plain refl (d .0)) here h top (omega arith)
-        (exprs-looped b k es (suc r) (suc n) (r + suc (lenEs es)) (omega arith) (f .inside) (here-tail here) (d .1) (ready-on b h top)
-        (λ i. cut (by i) (suc r) (suc r + lenEs es) (omega arith) (omega arith)))
-    stmt (assign l e t) k r n {ns} {s} {v} b {st} {seen} {w} f here d h by =
+        (exprs-looped b k es (suc r) (suc n) (r + suc (lenEs es)) (omega arith) (f .inside) (here-tail here) (d .1) (top .after)
+        (λ i. cut (by i) (suc r) (suc r + lenEs es) (omega arith) (omega arith)) (λ i z u y. told i z (omega arith) (omega arith)))
+    stmt (assign l e t) k r n {own} {s} {v} b {st} {seen} {w} f here d h by told =
         let stop : ℕ = r + suc (lenE e + lenE t) in
-        let at : Table text rows num w = h .at .table in
+        let at : Table text rows num w = h .table in
         let top = head b k h (omega arith) in
-        let h₁ = ready-on b h top in
+        let h₁ = top .after in
         let left : Here rows (suc r) (rowsE e) = here-left (rowsE e) (rowsE t) (here-tail here) in
-        let val = expr-done b k e (suc r) (suc n) st (omega arith) left (d .1 .0) h₁ (λ i. assign-still l e t (by i)) in
-        let h₂ = ready-on b h₁ val in
-        subst (λ u. Done text rows num ns s v (afterT t st .view) seen (rawE e (suc n) value [] v st ++ rawT t (suc n + lenE e) [] v st) w u r stop)
+        let val = expr-done b k e (suc r) (suc n) st (omega arith) left (d .1 .0) h₁ (λ i. assign-still l e t (by i)) (λ i z u y. told i z (omega arith) (omega arith)) in
+        let h₂ = val .after in
+        subst (λ u. Done text rows num own s v (afterT t st .view) seen (rawE e (suc n) value [] v st ++ rawT t (suc n + lenE e) [] v st) w u r stop)
         (sym (at-assign text k s r w (row-few at here) stop (row-after at here) (row-kind at here ∙ d .0) (suc r + lenE e) (after-E at e left)))
         (done-then top (done-then val (looped-end
         (λ u. rows-end nextTarget (targetAt (walkExpr k text false s) s) stop stop u (omega arith))
         (looped-to (omega arith) refl
         (target (b .flat) (b .room) k stop (f .inside) t (suc r + lenE e) (suc n + lenE e) (omega arith)
-        (here-past (sized-e e) (rowsE t) (here-tail here)) (d .1 .1) (h₂ .at) (λ i. assign-target l e t (by i)))))))
-    stmt (block l e bd) k r n b {st} f here d h by =
+        (here-past (sized-e e) (rowsE t) (here-tail here)) (d .1 .1) h₂ (λ i. assign-target l e t (by i))
+        (λ i z u y. told i z (omega arith) (omega arith)))))))
+    stmt (block l e bd) k r n b {st} f here d h by told =
         test-done b k l e (lenE e + lenSs bd) (rowsSs bd) r n st (block-test plain refl (d .0)) f (omega arith) here (d .1 .0) h
-        (λ i. block-still l e bd (by i))
+        (λ i. block-still l e bd (by i)) (λ i. told i .0)
         (λ u h. looped-to (omega arith) refl
         (stmts bd k (suc r + lenE e) (suc n + lenE e) (r + suc (lenE e + lenSs bd)) b (omega arith) (f .inside)
-        (here-past (sized-e e) (rowsSs bd) (here-tail here)) (d .1 .1) h (λ i. block-body l e bd (by i))))
-    stmt (choice l e bd ks es) k r n {ns} {s} {v} b {st} f here d h by =
+        (here-past (sized-e e) (rowsSs bd) (here-tail here)) (d .1 .1) h (λ i. block-body l e bd (by i)) (λ i. told i .1)))
+    stmt (choice l e bd ks es) k r n {own} {s} {v} b {st} f here d h by told =
         let below : ℕ = lenE e + (lenSs bd + (lenSs ks + lenSs es)) in
         let rest : Here rows (suc r + lenE e) (rowsSs bd ++ (rowsSs ks ++ rowsSs es)) = here-past (sized-e e) (rowsSs bd ++ (rowsSs ks ++ rowsSs es)) (here-tail here) in
         let last : Here rows (suc r + lenE e + lenSs bd) (rowsSs ks ++ rowsSs es) = here-past (sized-ss bd) (rowsSs ks ++ rowsSs es) rest in
         test-done b k l e below (rowsSs bd ++ (rowsSs ks ++ rowsSs es)) r n st (ap plain (d .0)) f (omega arith) here (d .1 .0) h
-        (λ i. choice-still l e bd ks es st (by i))
+        (λ i. choice-still l e bd ks es st (by i)) (λ i. told i .0)
         (λ u h.
         let one = stmts bd k (suc r + lenE e) (suc n + lenE e) (r + suc below) b (omega arith) (f .inside)
-        (here-left (rowsSs bd) (rowsSs ks ++ rowsSs es) rest) (d .1 .1 .0) h (λ i. choice-body l e bd ks es st (by i)) in
-        let h₁ = ready-on b h (one .done) in
+        (here-left (rowsSs bd) (rowsSs ks ++ rowsSs es) rest) (d .1 .1 .0) h (λ i. choice-body l e bd ks es st (by i)) (λ i. told i .1 .0) in
+        let h₁ = (one .done .after) in
         let two = stmts ks k (suc r + lenE e + lenSs bd) (suc n + lenE e + lenSs bd) (r + suc below) b (omega arith) (f .inside)
-        (here-left (rowsSs ks) (rowsSs es) last) (d .1 .1 .1 .0) h₁ (λ i. choice-elifs l e bd ks es st (by i)) in
+        (here-left (rowsSs ks) (rowsSs es) last) (d .1 .1 .1 .0) h₁ (λ i. choice-elifs l e bd ks es st (by i)) (λ i. told i .1 .1 .0) in
         looped-to (omega arith) refl (looped-then (one .goes) (one .done) (looped-then (two .goes) (two .done)
         (stmts es k (suc r + lenE e + lenSs bd + lenSs ks) (suc n + lenE e + lenSs bd + lenSs ks) (r + suc below) b (omega arith) (f .inside)
-        (here-past (sized-ss ks) (rowsSs es) last) (d .1 .1 .1 .1) (ready-on b h₁ (two .done)) (λ i. choice-else l e bd ks es st (by i))))))
-    stmt (for l e bd) k r n {ns} {s} {v} b {st} {seen} {w} f here d h by =
+        (here-past (sized-ss ks) (rowsSs es) last) (d .1 .1 .1 .1) (two .done .after) (λ i. choice-else l e bd ks es st (by i)) (λ i. told i .1 .1 .1)))))
+    stmt (for l e bd) k r n {own} {s} {v} b {st} {seen} {w} f here d h by told =
         let stop : ℕ = r + suc (lenE e + lenSs bd) in
-        let at : Table text rows num w = h .at .table in
+        let at : Table text rows num w = h .table in
         let top = head b k h (omega arith) in
-        let h₁ = ready-on b h top in
+        let h₁ = top .after in
         let left : Here rows (suc r) (rowsE e) = here-left (rowsE e) (rowsSs bd) (here-tail here) in
-        let val = expr-done b k e (suc r) (suc n) st (omega arith) left (d .1 .1 .0) h₁ (λ i. for-still l e bd (by i)) in
-        let h₂ = ready-on b h₁ val in
-        let name = done-bind (h₂ .at) {e = suc r + lenE e} (l .name) (b .flat .inner) (omega (arith, b .room, at .few)) (row-small at here (d .1 .0)) (omega arith) (omega (arith, b .room)) in
-        subst (λ u. Done text rows num ns s v (afterSs bd (assigning (l .name) st) .view) seen (rawE e (suc n) value [] v st ++ rawSs bd (suc n + lenE e) [] v (assigning (l .name) st)) w u r stop)
+        let val = expr-done b k e (suc r) (suc n) st (omega arith) left (d .1 .1 .0) h₁ (λ i. for-still l e bd (by i)) (λ i z u y. told i .0 z (omega arith) y) in
+        let h₂ = val .after in
+        let name = done-bind h₂ {e = suc r + lenE e} (l .name) (b .flat .inner) (omega (arith, b .room, at .few)) (row-small at here (d .1 .0)) (omega arith) (omega (arith, b .room)) in
+        subst (λ u. Done text rows num own s v (afterSs bd (assigning (l .name) st) .view) seen (rawE e (suc n) value [] v st ++ rawSs bd (suc n + lenE e) [] v (assigning (l .name) st)) w u r stop)
         (sym (at-for text k s r w (row-few at here) stop (row-after at here) (row-kind at here ∙ d .0) (suc r + lenE e) (after-E at e left) (num (l .name .bytes)) (row-number at here (d .1 .0))))
         (done-then top (done-then val (done-then name (looped-end
         (λ u. rows-end afterRow (walkLine k text s) stop stop u (omega arith))
         (looped-to (omega arith) refl
         (stmts bd k (suc r + lenE e) (suc n + lenE e) stop b (omega arith) (f .inside)
-        (here-past (sized-e e) (rowsSs bd) (here-tail here)) (d .1 .1 .1) (ready-on b h₂ name) (λ i. for-body l e bd (by i))))))))
-    stmt (def l bd) k r n {s = s} b {st} f here d h by =
+        (here-past (sized-e e) (rowsSs bd) (here-tail here)) (d .1 .1 .1) (name .after) (λ i. for-body l e bd (by i)) (λ i. told i .1)))))))
+    stmt (def l bd) k r n {s = s} b {st} f here d h by told =
         def-done b k l bd r here d (f .inside) h
-        (λ u h. looped-to (omega arith) refl
-        (stmts bd k (suc r) (suc n) (r + lenS (def l bd)) (def-block b k l bd r here d (f .inside)) (omega arith) (omega arith)
-        (here-tail here) (d .1 .1 .1) h (λ _. def-body l bd r (suc r + lenSs bd) (omega (arith, b .room, h .at .table .few)))))
-    stmt (class l ms ats) k r n b {st} f here d h by =
+        (λ u h told. looped-to (omega arith) refl
+        (stmts bd k (suc r) (suc n) (r + lenS (def l bd)) (def-block b k l bd r u (f .inside)) (omega arith) (omega arith)
+        (here-tail here) (d .1 .1 .1) h (λ _. def-body l bd r (suc r + lenSs bd) (omega (arith, b .room, h .table .few))) (λ _. told)))
+    stmt (class l ms ats) k r n b {st} f here d h by told =
         class-done b k l ms ats r here d (f .inside) h
         (λ u i h. methods ms k (suc r) (suc n) (r + lenS (class l ms ats)) l b (naming (l .name) st) (omega arith) (f .inside) i (here-left (rowsMs ms) (rowsAs ats) (here-tail here)) (d .1 .1 .0) h)
 
-    pub stmts : (ts : Stmts) (k r n stop : ℕ) {ns : List Note} {s : ScopeStack} {v : Env} (b : Block rows ns s v) {st : State} {seen : List Fault} {w : List ℕ}
-        → Spans (lenSs ts) k r n stop → stop ≤ s .end → Here rows r (rowsSs ts) → WordedSs ts → Ready text num b (st .view) seen w r
-        → (v .home ≡ inDef → Assigns ns (st .assigned) (notesSs ts r) r (r + lenSs ts))
-        → Looped text rows num ns s v (kids text k s stop) (afterSs ts st .view) seen (rawSs ts n [] v st) w r (r + lenSs ts)
-    stmts snil k r n stop {s = s} b {st} {w = w} f m here d h by =
+    pub stmts : (ts : Stmts) (k r n stop : ℕ) {own : OwnNames} {s : ScopeStack} {v : Env} (b : Block rows own s v) {st : State} {seen : List Fault} {w : List ℕ}
+        → Spans (lenSs ts) k r n stop → stop ≤ s .end → Here rows r (rowsSs ts) → WordedSs ts → At text rows num own s [] v (st .view) seen w r
+        → (v .home ≡ inDef → Assigns (own .notes) (st .assigned) (notesSs ts r) r (r + lenSs ts)) → (v .home ≡ inDef → ToldSs rows own ts r)
+        → Looped text rows num own s v (kids text k s stop) (afterSs ts st .view) seen (rawSs ts n [] v st) w r (r + lenSs ts)
+    stmts snil k r n stop {s = s} b {st} {w = w} f m here d h by told =
         let e : r ≡ r + 0 = omega arith in
-        looped-one (ap (λ i. kids text k s stop i w) e) (done-skip (h .at) (omega arith) (omega (arith, b .room)))
-    stmts (scons t ts) k r n stop {ns} {s} {v} b {st} {seen} {w} f m here d h by =
+        looped-one (ap (λ i. kids text k s stop i w) e) (done-skip h (omega arith) (omega (arith, b .room)))
+    stmts (scons t ts) k r n stop {own} {s} {v} b {st} {seen} {w} f m here d h by told =
         let some : 0 < lenS t = some-stmt t in
         let less : suc (k - 1) ≡ k = omega arith in
-        let first : Done text rows num ns s v (afterS t st .view) seen (rawS t n [] v st) w (walkStmt k text s r w) r (r + lenS t) =
-        subst (λ i. Done text rows num ns s v (afterS t st .view) seen (rawS t n [] v st) w (walkStmt i text s r w) r (r + lenS t)) less
-        (stmt t (k - 1) r n b (omega arith) (here-left (rowsS t) (rowsSs ts) here) (d .0) h (λ i. stmts-first t ts (by i))) in
+        let first : Done text rows num own s v (afterS t st .view) seen (rawS t n [] v st) w (walkStmt k text s r w) r (r + lenS t) =
+        subst (λ i. Done text rows num own s v (afterS t st .view) seen (rawS t n [] v st) w (walkStmt i text s r w) r (r + lenS t)) less
+        (stmt t (k - 1) r n b (omega arith) (here-left (rowsS t) (rowsSs ts) here) (d .0) h (λ i. stmts-first t ts (by i)) (λ i. told i .0)) in
         looped-to (omega arith) refl (looped-then
-        (line-stmt text k s stop r w (omega arith) (r + lenS t) (after-S (h .at .table) t (here-left (rowsS t) (rowsSs ts) here)) (stmt-kind (h .at .table) t (here-left (rowsS t) (rowsSs ts) here) (d .0)))
+        (line-stmt text k s stop r w (omega arith) (r + lenS t) (after-S (h .table) t (here-left (rowsS t) (rowsSs ts) here)) (stmt-kind (h .table) t (here-left (rowsS t) (rowsSs ts) here) (d .0)))
         first
         (stmts ts k (r + lenS t) (n + lenS t) stop b (omega arith) m (here-past (sized-s t) (rowsSs ts) here) (d .1)
-        (ready-on b h first) (λ i. stmts-rest t ts st (by i))))
+        (first .after) (λ i. stmts-rest t ts st (by i)) (λ i. told i .1)))
 
-    methods : (ms : Methods) (k r n stop : ℕ) (c : Line) {ns : List Note} {s : ScopeStack} {v : Env} (b : Block rows ns s v) (st : State) {seen : List Fault} {w : List ℕ}
-        → Spans (lenMs ms) k r n stop → stop ≤ s .end → v .home ≡ inModule → Here rows r (rowsMs ms) → WordedMs ms → Ready text num b (st .view) seen w r
-        → Looped text rows num ns s v (kids text k s stop) (st .view) seen (rawMs ms n c st) w r (r + lenMs ms)
+    methods : (ms : Methods) (k r n stop : ℕ) (c : Line) {own : OwnNames} {s : ScopeStack} {v : Env} (b : Block rows own s v) (st : State) {seen : List Fault} {w : List ℕ}
+        → Spans (lenMs ms) k r n stop → stop ≤ s .end → v .home ≡ inModule → Here rows r (rowsMs ms) → WordedMs ms → At text rows num own s [] v (st .view) seen w r
+        → Looped text rows num own s v (kids text k s stop) (st .view) seen (rawMs ms n c st) w r (r + lenMs ms)
     methods mnil k r n stop c {s = s} b st {w = w} f m i here d h =
         let e : r ≡ r + 0 = omega arith in
-        looped-one (ap (λ i. kids text k s stop i w) e) (done-skip (h .at) (omega arith) (omega (arith, b .room)))
-    methods (mcons g bd ms) k r n stop c {ns} {s} {v} b st {seen} {w} f m i here d h =
+        looped-one (ap (λ i. kids text k s stop i w) e) (done-skip h (omega arith) (omega (arith, b .room)))
+    methods (mcons g bd ms) k r n stop c {own} {s} {v} b st {seen} {w} f m i here d h =
         let less : suc (k - 1) ≡ k = omega arith in
         let u : r + suc (lenSs bd) ≤ s .end = omega arith in
         let e : r + suc (lenSs bd) + lenMs ms ≡ r + suc (lenSs bd + lenMs ms) = omega arith in
         let a : suc r + lenSs bd ≡ r + suc (lenSs bd) = omega arith in
         let body : List Fault = rawSs bd (suc n) [] methodEnv (entered (g .params) st) in
-        let first : Done text rows num ns s v (st .view) seen (selfFault n g c ++ body) w (walkStmt k text s r w) r (r + suc (lenSs bd)) =
-        subst (λ i. Done text rows num ns s v (st .view) seen (selfFault n g c ++ body) w (walkStmt i text s r w) r (r + suc (lenSs bd))) less
+        let first : Done text rows num own s v (st .view) seen (selfFault n g c ++ body) w (walkStmt k text s r w) r (r + suc (lenSs bd)) =
+        subst (λ i. Done text rows num own s v (st .view) seen (selfFault n g c ++ body) w (walkStmt i text s r w) r (r + suc (lenSs bd))) less
         (method-done b (k - 1) g c bd (rowsSs bd ++ rowsMs ms) r n u (f .line) here (d .0) (d .1 .1 .0) i h
         (λ z h. looped-to a refl
-        (stmts bd (k - 1) (suc r) (suc n) (r + suc (lenSs bd)) (method-block b (k - 1) g bd r u) (omega arith) (omega arith)
-        (here-left (rowsSs bd) (rowsMs ms) (here-tail here)) (d .1 .1 .1 .0) h (λ y. absurd (omega (arith, ap homeNumber y)))))) in
+        (stmts bd (k - 1) (suc r) (suc n) (r + suc (lenSs bd)) (method-block b (k - 1) bd r u) (omega arith) (omega arith)
+        (here-left (rowsSs bd) (rowsMs ms) (here-tail here)) (d .1 .1 .1 .0) h (λ y. absurd (omega (arith, ap homeNumber y))) (λ y. absurd (omega (arith, ap homeNumber y)))))) in
         looped-to e (append-assoc (selfFault n g c) body (rawMs ms (suc n + lenSs bd) c st))
         (looped-then
-        (line-stmt text k s stop r w (omega arith) (r + suc (lenSs bd)) (row-after (h .at .table) here) (omega (arith, row-kind (h .at .table) here, d .0)))
+        (line-stmt text k s stop r w (omega arith) (r + suc (lenSs bd)) (row-after (h .table) here) (omega (arith, row-kind (h .table) here, d .0)))
         first
         (methods ms k (r + suc (lenSs bd)) (suc n + lenSs bd) stop c b st (omega arith) m i
-        (subst (λ j. Here rows j (rowsMs ms)) a (here-past (sized-ss bd) (rowsMs ms) (here-tail here))) (d .1 .1 .1 .1) (ready-on b h first)))
+        (subst (λ j. Here rows j (rowsMs ms)) a (here-past (sized-ss bd) (rowsMs ms) (here-tail here))) (d .1 .1 .1 .1) (first .after)))

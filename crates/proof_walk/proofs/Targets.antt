@@ -25,7 +25,7 @@ use Rattle.walk_scopes.specs.declared.ScopeStack.{ScopeStack}
 use Rattle.read_row.specs.Worded.{AccessWord, index, get, WordedE, WordedEs}
 use Rattle.walk_tree.specs.WalkModel.{nextTarget, targetAt, walkExpr}
 use Rattle.proof_walk.specs.Table.{Here}
-use Rattle.proof_walk.specs.Notes.{Note, notesT, notesTs}
+use Rattle.proof_walk.specs.Notes.{OwnNames, notesT, notesTs, Told}
 use Rattle.proof_walk.proofs.State.{At}
 use Rattle.proof_walk.proofs.PartRows.{here-tail, here-left, here-past, row-kind, row-after, row-number, row-small}
 use Rattle.proof_walk.proofs.WordTests.{node-test}
@@ -87,11 +87,11 @@ turn : (text : Bytes) (k : ℕ) (s : ScopeStack) (stop : ℕ) {r i j : ℕ} {w y
 turn text k s stop {r} {w = w} l t p q =
     rows-more nextTarget (targetAt (walkExpr k text false s) s) next-on r stop w l ∙ ap₂ (turns text k s stop) (t .next ∙ q) (t .does ∙ p)
 
-module _ {text : Bytes} {rows : List Row} {num : Bytes → ℕ} {ns : List Note} {s : ScopeStack} {v : Env} (flat : Flat s v) (room : s .end ≤ length rows) (k stop : ℕ) (end : stop ≤ s .end) where
+module _ {text : Bytes} {rows : List Row} {num : Bytes → ℕ} {own : OwnNames} {s : ScopeStack} {v : Env} (flat : Flat s v) (room : s .end ≤ length rows) (k stop : ℕ) (end : stop ≤ s .end) where
   -- a line of another kind
   refused : (l : Line) (below : ℕ) (part : List Row) (r n : ℕ) {vs : List Part} {seen : List Fault} {w : List ℕ} → n ≡ suc (suc r) → r + suc below ≤ stop → Here rows r (row l below ∷ part)
-      → noTarget (l .word) ≡ true → At text rows num ns s [] v vs seen w r
-      → Looped text rows num ns s v (turns text k s stop) vs seen (refusedAt n l ∷ []) w r (r + suc below)
+      → noTarget (l .word) ≡ true → At text rows num own s [] v vs seen w r
+      → Looped text rows num own s v (turns text k s stop) vs seen (refusedAt n l ∷ []) w r (r + suc below)
   refused l below part r n {w = w} q m here other h =
       looped-one
       (turn text k s stop (omega arith) (turn-refused (walkExpr k text false s) s r w (ap noTarget (row-kind (h .table) here) ∙ other)) refl (row-after (h .table) here))
@@ -99,45 +99,49 @@ module _ {text : Bytes} {rows : List Row} {num : Bytes → ℕ} {ns : List Note}
 
   mutual
     pub target : (t : Expr) (r n : ℕ) {st : State} {seen : List Fault} {w : List ℕ} → Spans (lenE t) k r n stop
-        → Here rows r (rowsE t) → WordedE t → At text rows num ns s [] v (st .view) seen w r → (v .home ≡ inDef → Assigns ns (st .assigned) (notesT t r) r (r + lenE t))
-        → Looped text rows num ns s v (turns text k s stop) (afterT t st .view) seen (rawT t n [] v st) w r (r + lenE t)
-    target (var l) r n {st} {seen} {w} f here d h by =
+        → Here rows r (rowsE t) → WordedE t → At text rows num own s [] v (st .view) seen w r → (v .home ≡ inDef → Assigns (own .notes) (st .assigned) (notesT t r) r (r + lenE t))
+        → (v .home ≡ inDef → Told rows own r (r + lenE t))
+        → Looped text rows num own s v (turns text k s stop) (afterT t st .view) seen (rawT t n [] v st) w r (r + lenE t)
+    target (var l) r n {st} {seen} {w} f here d h by told =
         let few = h .table .few in
         looped-one
         (turn text k s stop (omega arith) (turn-var (walkExpr k text false s) s r w (row-kind (h .table) here ∙ d .0)) (ap (defined s w) (row-number (h .table) here (d .1))) (row-after (h .table) here))
         (done-bind h (l .name) (flat .inner) (omega arith) (row-small (h .table) here (d .1)) (omega arith) (omega arith))
-    target (node l es) r n f here d h by =
+    target (node l es) r n f here d h by told =
         refused l (lenEs es) (rowsEs es) r n (f .line) (f .inside) here (node-test noTarget refl (d .0)) h
-    target (access l es) r n {st} {seen} {w} f here d h by =
+    target (access l es) r n {st} {seen} {w} f here d h by told =
         let e : suc r + lenEs es ≡ r + suc (lenEs es) = omega arith in
-        let head : Done text rows num ns s v (st .view) seen [] w w r (suc r) =
+        let head : Done text rows num own s v (st .view) seen [] w w r (suc r) =
         done-skip h (omega arith) (omega arith) in
         looped-one
         (turn text k s stop (omega arith) (turn-access (walkExpr k text false s) s r w (d .0) (row-kind (h .table) here))
         (ap₂ (λ i j. rowsTo afterRow (walkExpr k text false s) i j w) (add-one r) (row-after (h .table) here ∙ sym e)) (row-after (h .table) here))
         (done-to e (ap (λ i. rawEs es (suc i) [] v st) (sym (f .line))) (done-then head
         (exprs-walked k (suc r) st flat (head .after) es (here-tail here) (d .1) (omega arith) (omega arith) room
-        (λ i x z u y. none-still (by i) x z (omega arith) (omega arith)))))
-    target (tuple l es) r n {st} {seen} {w} f here d h by =
-        let head : Done text rows num ns s v (st .view) seen [] w w r (suc r) =
+        (λ i x z u y. none-still (by i) x z (omega arith) (omega arith))
+        (λ i z u y. told i z (omega arith) (omega arith)))))
+    target (tuple l es) r n {st} {seen} {w} f here d h by told =
+        let head : Done text rows num own s v (st .view) seen [] w w r (suc r) =
         done-skip h (omega arith) (omega arith) in
         looped-to (omega arith) refl (looped-then
         (turn text k s stop (omega arith) (turn-tuple (walkExpr k text false s) s r w (row-kind (h .table) here ∙ d .0)) refl (add-one r)) head
-        (targets es (suc r) (suc n) (omega arith) (here-tail here) (d .1) (head .after) (λ i. tuple-parts l es (by i))))
-    target (call l g es) r n f here d h by =
+        (targets es (suc r) (suc n) (omega arith) (here-tail here) (d .1) (head .after) (λ i. tuple-parts l es (by i))
+        (λ i z u y. told i z (omega arith) (omega arith))))
+    target (call l g es) r n f here d h by told =
         refused l (lenE g + lenEs es) (rowsE g ++ rowsEs es) r n (f .line) (f .inside) here (ap noTarget (d .0)) h
-    target (lambda l e) r n f here d h by =
+    target (lambda l e) r n f here d h by told =
         refused l (lenE e) (rowsE e) r n (f .line) (f .inside) here (ap noTarget (d .0)) h
 
     targets : (es : Exprs) (r n : ℕ) {st : State} {seen : List Fault} {w : List ℕ} → Spans (lenEs es) k r n stop
-        → Here rows r (rowsEs es) → WordedEs es → At text rows num ns s [] v (st .view) seen w r → (v .home ≡ inDef → Assigns ns (st .assigned) (notesTs es r) r (r + lenEs es))
-        → Looped text rows num ns s v (turns text k s stop) (afterTs es st .view) seen (rawTs es n [] v st) w r (r + lenEs es)
-    targets enil r n {st} {seen} {w} f here d h by =
+        → Here rows r (rowsEs es) → WordedEs es → At text rows num own s [] v (st .view) seen w r → (v .home ≡ inDef → Assigns (own .notes) (st .assigned) (notesTs es r) r (r + lenEs es))
+        → (v .home ≡ inDef → Told rows own r (r + lenEs es))
+        → Looped text rows num own s v (turns text k s stop) (afterTs es st .view) seen (rawTs es n [] v st) w r (r + lenEs es)
+    targets enil r n {st} {seen} {w} f here d h by told =
         let e : r ≡ r + 0 = omega arith in
         looped-one (ap (λ i. turns text k s stop i w) e) (done-skip h (omega arith) (omega arith))
-    targets (econs e es) r n {st} {seen} {w} f here d h by =
-        let first : Looped text rows num ns s v (turns text k s stop) (afterT e st .view) seen (rawT e n [] v st) w r (r + lenE e) =
-        target e r n (omega arith) (here-left (rowsE e) (rowsEs es) here) (d .0) h (λ i. targets-first e es (by i)) in
+    targets (econs e es) r n {st} {seen} {w} f here d h by told =
+        let first : Looped text rows num own s v (turns text k s stop) (afterT e st .view) seen (rawT e n [] v st) w r (r + lenE e) =
+        target e r n (omega arith) (here-left (rowsE e) (rowsEs es) here) (d .0) h (λ i. targets-first e es (by i)) (λ i z u y. told i z u (omega arith)) in
         looped-to (omega arith) refl (looped-then (first .goes) (first .done)
         (targets es (r + lenE e) (n + lenE e) (omega arith) (here-past (sized-e e) (rowsEs es) here) (d .1)
-        (first .done .after) (λ i. targets-rest e es st (by i))))
+        (first .done .after) (λ i. targets-rest e es st (by i)) (λ i z u y. told i z (omega arith) (omega arith))))

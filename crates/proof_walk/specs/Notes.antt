@@ -1,10 +1,15 @@
--- A def's own names, in the order in which they are noted: each with the first row at which that binding counts as assigned.
-use Prim.Native.Nat.{ℕ, suc, _+_}
-use mathlib.Core.Bool.{Bool, _&&_}
+-- A def's own names, in the order in which they are noted: each with the first row at which that binding counts as assigned. And how the
+-- names of its rows stand to them: the flags.
+use Prim.Native.Nat.{ℕ, suc, _+_, _≤_, _<_}
+use mathlib.Core.Path.{_≡_}
+use mathlib.Core.Bool.{Bool, cond, _&&_}
 use mathlib.Core.List.{List, [], _∷_, _++_, map}
 use lib.Dec.{leb}
+use lib.ListN.{getD}
 use Rattle.spec_text.specs.Bytes.{Bytes, Part, same, any}
-use Rattle.spec_text.specs.Tree.{Line, Expr, Exprs, Stmt, Stmts, var, node, access, tuple, call, lambda, enil, econs, simple, assign, block, choice, for, def, class, snil, scons, lenE, lenS, lenSs}
+use Rattle.spec_text.specs.Tree.{Line, Expr, Exprs, Stmt, Stmts, var, node, access, tuple, call, lambda, enil, econs, simple, assign, block, choice, for, def, class, snil, scons, lenE, lenEs, lenS, lenSs}
+use Rattle.work_rows.specs.Rows.{Row}
+use Rattle.read_tree.specs.Laid.{noRow}
 use Rattle.work_marks.specs.MarksModel.{never}
 
 pub record Note : Type 0 where
@@ -54,3 +59,37 @@ noteOf ns x = any (λ (n : Note). same x (n .name .bytes)) ns
 -- x is assigned at row r
 abbrev pub assignedBy : List Note → Bytes → ℕ → Bool
 assignedBy ns x r = any (λ (n : Note). leb (n .from) r && same x (n .name .bytes)) ns
+
+-- how the name x stands to the def at row r: 0 none of its own names, 1 one that is assigned there, 2 one that is not
+abbrev pub flagOf : List Note → Bytes → ℕ → ℕ
+flagOf ns x r = cond (noteOf ns x) (cond (assignedBy ns x r) 1 2) 0
+
+-- what a def is opened with: its own names, and the flags that the rows have then
+pub record OwnNames : Type 0 where
+  pub notes : List Note
+  pub flags : ℕ → ℕ
+
+-- where no def is opened
+abbrev pub noOwnNames : OwnNames
+noOwnNames = record { notes = []; flags = λ _. 0 }
+
+module _ (rows : List Row) (o : OwnNames) where
+  -- each `var` from row i up to row m has its flag
+  abbrev pub Told : ℕ → ℕ → Type 0
+  Told i m = (k : ℕ) → i ≤ k → k < m → getD rows k noRow .line .word ≡ 17 → o .flags k ≡ flagOf (o .notes) (getD rows k noRow .line .name .bytes) k
+
+  -- of a part that begins at row i: but for nested defs and classes
+  abbrev mutual
+    pub ToldS : Stmt → ℕ → Type 0
+    ToldS (simple l es) i = Told i (i + suc (lenEs es))
+    ToldS (assign l e t) i = Told i (i + suc (lenE e + lenE t))
+    ToldS (block l c b) i = Told i (suc i + lenE c) × ToldSs b (suc i + lenE c)
+    ToldS (choice l c b k e) i =
+        Told i (suc i + lenE c) × (ToldSs b (suc i + lenE c) × (ToldSs k (suc i + lenE c + lenSs b) × ToldSs e (suc i + lenE c + lenSs b + lenSs k)))
+    ToldS (for l e b) i = Told i (suc i + lenE e) × ToldSs b (suc i + lenE e)
+    ToldS (def l b) i = Unit
+    ToldS (class l ms ats) i = Unit
+
+    pub ToldSs : Stmts → ℕ → Type 0
+    ToldSs snil i = Unit
+    ToldSs (scons s ss) i = ToldS s i × ToldSs ss (i + lenS s)

@@ -9,8 +9,9 @@ use lib.ListN.{length, length-append}
 use borrow.Author.Tests.{eq-eqb, ne-eqb, le-leb, lt-leb}
 use Rattle.spec_faults.specs.Faults.{capture}
 use Rattle.work_rows.specs.Layout.{kindAt, linesBelow, afterRow}
+use Rattle.work_marks.specs.MarksModel.{slotAt}
 use Rattle.report_order.specs.declared.Around.{Around}
-use Rattle.report_order.specs.OrderModel.{entry, slotIn, captured, captures, called, itself, newLambda, newClass, around, placedAt, entriesFrom, stored}
+use Rattle.report_order.specs.OrderModel.{entry, slotIn, captured, captures, called, itself, newLambda, newClass, around, placedAt, entriesFrom, stored, anySlot, anyFault}
 use Rattle.report_order.proofs.Stored.{Same, same-after, captures-same, called-same, entries-same, Left, left-all, left-more, left-none}
 
 -- ---- none or one
@@ -80,6 +81,22 @@ module _ (w : List ℕ) (x : Around) (p stop c : ℕ) {all : List ℕ} {from : �
   pub entries-end : stop ≤ p → (w ≡ stored all from v) × (c ≡ from + length all)
   unfolding entriesFrom
   entries-end l = left-none (ap (λ n. entriesFrom w x n p) (let n : stop - p ≡ 0 = omega arith in n)) left
+
+-- whether a slot has a fault, from row i on
+module _ (w : List ℕ) (i stop : ℕ) where
+  any-step : i < stop → anyFault w i stop ≡ cond (eqb (slotAt w i) 0) (anyFault w (i + 1) stop) true
+  unfolding anySlot
+  any-step l = ap (λ n. anySlot w n i) (let n : stop - i ≡ suc (stop - (i + 1)) = omega arith in n)
+
+  pub any-here : i < stop → (slotAt w i ≡ 0 → ⊥) → anyFault w i stop ≡ true
+  any-here l d = any-step l ∙ rw (ne-eqb (slotAt w i) 0 d)
+
+  pub any-more : i < stop → slotAt w i ≡ 0 → anyFault w i stop ≡ anyFault w (i + 1) stop
+  any-more l e = any-step l ∙ rw e
+
+  pub any-end : stop ≤ i → anyFault w i stop ≡ false
+  unfolding anySlot
+  any-end l = ap (λ n. anySlot w n i) (let n : stop - i ≡ 0 = omega arith in n)
 
 -- ---- how many
 few : (b : Bool) (c d : List ℕ) {n : ℕ} → length c ≤ n → length d ≤ n → length (cond b c d) ≤ n

@@ -1,7 +1,7 @@
 -- The faults in the report's order, from the slots: at each row those that have it as their place. A fault is one number: its kind, the row whose
 -- span it shows, and the row whose name it shows.
 use Prim.Native.Nat.{ℕ, zero, suc, _+_, _*_, _-_, _/_, _%_}
-use mathlib.Core.Bool.{Bool, cond, _&&_, _||_}
+use mathlib.Core.Bool.{Bool, true, false, cond, _&&_, _||_}
 use mathlib.Core.List.{List, [], _∷_, _++_}
 use lib.Dec.{eqb, leb, ltb}
 use lib.ListN.{getD}
@@ -83,3 +83,13 @@ stored (e ∷ es) j w = stored es (j + 1) (put w (entryBase + j) e)
 abbrev pub entryAt : List ℕ → ℕ → Entry
 entryAt w j =
     record { kind = getD w (entryBase + j) 0 / 67_108_864; of = getD w (entryBase + j) 0 / 8_192 % 8_192; row = getD w (entryBase + j) 0 % 8_192 }
+
+-- ---- whether a slot has a fault
+-- of n rows from row i on
+unfoldable pub anySlot : List ℕ → ℕ → ℕ → Bool
+anySlot w zero i = false
+anySlot w (suc n) i = cond (eqb (slotAt w i) 0) (anySlot w n (i + 1)) true
+
+-- of the rows from `first` up to `rows`
+abbrev pub anyFault : List ℕ → ℕ → ℕ → Bool
+anyFault w first rows = anySlot w (rows - first) first

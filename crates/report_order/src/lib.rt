@@ -9,7 +9,7 @@ ghost use Prim.Native.Nat.{_+_, _-_, _<_, _≤_};
 ghost use lib.Dec.{eqb};
 ghost use lib.ListN.{length};
 ghost use Rattle.spec_faults.specs.Faults.{capture};
-ghost use Rattle.report_order.specs.OrderModel.{entry, slotIn, captured, captures, called, itself, around, placedAt, entries, stored, entryAt};
+ghost use Rattle.report_order.specs.OrderModel.{entry, slotIn, captured, captures, called, itself, around, placedAt, entries, stored, entryAt, anyFault};
 
 // Where the entries stand.
 const ENTRY_BASE: usize = 12288;
@@ -174,6 +174,21 @@ fn list_row(work: &mut [u32], x: Around, class: usize, p: usize, count: usize) -
         return list_called(work, p, c);
     }
     c
+}
+
+// Whether one of the rows from `first` up to `rows` has a fault.
+pub fn any_fault(work: &[u32], first: usize, rows: usize) -> bool
+    requires { ⌜ rows ≤ 4096 ⌝ }
+    ensures { λ r. ⌜ r ≡ anyFault (now (work .entry)) first rows ⌝ }
+{
+    let mut i = first;
+    while i < rows {
+        if work_marks::slot(work, i) != 0 {
+            return true;
+        }
+        i += 1;
+    }
+    false
 }
 
 // Lists the faults of the rows from `first` up to `rows`, and answers how many there are.

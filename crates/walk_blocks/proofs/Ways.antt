@@ -1,21 +1,20 @@
--- The definitions by their tests: a parameter that is bound, a turn and the end of the loop over the parameters, and the way into a block
--- and back. What is left of the parameters is what the cursor has still to take.
+-- The definitions by their tests: a parameter that is bound, a turn and the end of the loop over the parameters, and the way into a block.
+-- What is left of the parameters is what the cursor has still to take.
 use Prim.Native.Nat.{ℕ, _+_}
 use mathlib.Core.Path.{_≡_, sym, ap, _∙_}
 use mathlib.Core.Bool.{true, false}
 use mathlib.Core.List.{List}
 use lib.ListN.{length}
-use borrow.Author.Tests.{eq-eqb, ne-eqb}
 use Rattle.spec_text.specs.Bytes.{Bytes}
 use Rattle.read_fields.specs.FieldsModel.{fieldAt, nextAt}
 use Rattle.read_fields.specs.declared.Cursor.{Cursor}
 use Rattle.read_names.specs.ChainsModel.{lookup}
-use Rattle.walk_scopes.specs.ScopesModel.{aDef, owns, defined}
+use Rattle.walk_scopes.specs.ScopesModel.{owns, defined}
 use Rattle.walk_scopes.specs.declared.ScopeStack.{ScopeStack}
-use Rattle.walk_own_names.specs.OwnNamesModel.{noted, allNoted}
+use Rattle.walk_own_names.specs.OwnNamesModel.{noted, flagged}
 use Rattle.read_row.specs.RowModel.{partsFrom, paramsOf}
 use Rattle.read_row.proofs.FieldsLeft.{parts-more, parts-none}
-use Rattle.walk_blocks.specs.BlocksModel.{enteredOne, entered, opened, reopened}
+use Rattle.walk_blocks.specs.BlocksModel.{enteredOne, entered, opened}
 
 module _ (text : Bytes) (s : ScopeStack) (w : List ℕ) where
   -- ---- a parameter is bound; a is its number
@@ -44,19 +43,10 @@ module _ (text : Bytes) (s : ScopeStack) (w : List ℕ) where
 
   -- ---- into the block of row i, up to the row stop
   module _ (i stop : ℕ) (v : List ℕ) (p : v ≡ entered text s (paramsOf text w i) w) where
-    pub open-owned : owns s ≡ true → (z : List ℕ) → z ≡ allNoted (s .block) (i + 1) stop v → z ≡ opened text s i stop w
+    pub open-owned : owns s ≡ true → (z : List ℕ) → z ≡ flagged (s .block) (i + 1) stop v → z ≡ opened text s i stop w
     unfolding opened
     open-owned o z q = rw (q, p, o)
 
     pub open-plain : owns s ≡ false → v ≡ opened text s i stop w
     unfolding opened
     open-plain o = rw (p, o)
-
-  -- ---- back in a block
-  pub reopen-def : s .home ≡ aDef → (z : List ℕ) → z ≡ opened text s (s .block) (s .end) w → z ≡ reopened text s w
-  unfolding reopened
-  reopen-def e z q = rw (eq-eqb (s .home) aDef e) q
-
-  pub reopen-plain : (s .home ≡ aDef → ⊥) → w ≡ reopened text s w
-  unfolding reopened
-  reopen-plain d = rw (ne-eqb (s .home) aDef d)

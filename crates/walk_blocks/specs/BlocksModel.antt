@@ -1,13 +1,12 @@
--- What the way into a block does to the work buffer: its parameters are bound, and a def's own names are noted.
+-- What the way into a block does to the work buffer: its parameters are bound, and in a def each `var` is flagged.
 use Prim.Native.Nat.{ℕ, _+_}
 use mathlib.Core.Bool.{cond}
 use mathlib.Core.List.{List, [], _∷_}
-use lib.Dec.{eqb}
 use Rattle.spec_text.specs.Bytes.{Bytes, Part}
 use Rattle.read_names.specs.ChainsModel.{lookup}
-use Rattle.walk_scopes.specs.ScopesModel.{aDef, owns, defined}
+use Rattle.walk_scopes.specs.ScopesModel.{owns, defined}
 use Rattle.walk_scopes.specs.declared.ScopeStack.{ScopeStack}
-use Rattle.walk_own_names.specs.OwnNamesModel.{noted, allNoted}
+use Rattle.walk_own_names.specs.OwnNamesModel.{noted, flagged}
 use Rattle.read_row.specs.RowModel.{paramsOf}
 
 unfoldable pub enteredOne : Bytes → ScopeStack → Bytes → List ℕ → List ℕ
@@ -21,8 +20,4 @@ entered text s (p ∷ ps) w = entered text s ps (enteredOne text s (p .bytes) w)
 -- the block of row i, up to the row stop
 unfoldable pub opened : Bytes → ScopeStack → ℕ → ℕ → List ℕ → List ℕ
 opened text s i stop w =
-    cond (owns s) (allNoted (s .block) (i + 1) stop (entered text s (paramsOf text w i) w)) (entered text s (paramsOf text w i) w)
-
--- back in a block: a def's own names are noted again
-unfoldable pub reopened : Bytes → ScopeStack → List ℕ → List ℕ
-reopened text s w = cond (eqb (s .home) aDef) (opened text s (s .block) (s .end) w) w
+    cond (owns s) (flagged (s .block) (i + 1) stop (entered text s (paramsOf text w i) w)) (entered text s (paramsOf text w i) w)

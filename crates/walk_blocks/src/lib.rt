@@ -1,10 +1,9 @@
-// The way into a block: its parameters are bound, and a def's own names are noted.
-use walk_scopes::HOME_DEF;
+// The way into a block: its parameters are bound, and in a def each `var` is flagged by how its name stands to the def.
 use walk_scopes::ScopeStack;
 ghost use mathlib.Core.Path.{_≡_};
 ghost use Prim.Native.Nat.{_<_, _≤_};
 ghost use Rattle.read_row.specs.RowModel.{paramsOf};
-ghost use Rattle.walk_blocks.specs.BlocksModel.{enteredOne, entered, opened, reopened};
+ghost use Rattle.walk_blocks.specs.BlocksModel.{enteredOne, entered, opened};
 
 // Binds a parameter.
 fn enter_one(text: &[u8], work: &mut [u32], s: ScopeStack, name: &[u8])
@@ -32,23 +31,13 @@ fn enter(text: &[u8], work: &mut [u32], s: ScopeStack, i: usize)
     }
 }
 
-// Into the block of row i, up to the row stop: binds its parameters, and notes a def's own names.
+// Into the block of row i, up to the row stop: binds its parameters; of a def, flags each `var` by how its name stands to the def.
 pub fn enter_block(text: &[u8], work: &mut [u32], s: ScopeStack, i: usize, stop: usize)
     requires { ⌜ (i ≤ 4096) × (s .block < 4294967295) × (stop ≤ 16384) ⌝ }
     ensures { λ _. ⌜ now (work .exit) ≡ opened (now (text .entry)) s i stop (now (work .entry)) ⌝ }
 {
     enter(text, work, s, i);
     if s.owns() {
-        walk_own_names::collect_locals(work, s.block, i + 1, stop);
-    }
-}
-
-// Back in a block: notes a def's own names again, as a def in it has noted others.
-pub fn reenter_block(text: &[u8], work: &mut [u32], s: ScopeStack)
-    requires { ⌜ (s .block ≤ 4096) × (s .end ≤ 16384) ⌝ }
-    ensures { λ _. ⌜ now (work .exit) ≡ reopened (now (text .entry)) s (now (work .entry)) ⌝ }
-{
-    if s.home == HOME_DEF {
-        enter_block(text, work, s, s.block, s.end);
+        walk_own_names::flag_block(work, s.block, i + 1, stop);
     }
 }

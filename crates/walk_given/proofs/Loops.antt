@@ -1,5 +1,5 @@
--- A turn and the end of each loop: over the rows that are cleared, over the table of the built-in names, and over the `global` lines. What
--- is left to do, done to the buffer of the next turn, gives what it gives now.
+-- A turn and the end of each loop: over the table of the built-in names, and over the `global` lines. What is left to do, done to the
+-- buffer of the next turn, gives what it gives now.
 use Prim.Native.Nat.{ℕ, suc, _+_, _-_, _≤_, _<_}
 use native.Mathlib.Omega.{arith}
 use mathlib.Core.Path.{_≡_, sym, ap, _∙_}
@@ -10,20 +10,9 @@ use Rattle.work_rows.specs.Layout.{numberAt}
 use Rattle.read_names.specs.ChainsModel.{lookup}
 use Rattle.walk_builtins.specs.Table.{cutBy}
 use Rattle.walk_builtins.proofs.Search.{cut-turn}
-use Rattle.work_marks.specs.MarksModel.{forgotten}
 use Rattle.walk_scopes.specs.ScopesModel.{defined}
 use Rattle.walk_scopes.specs.declared.ScopeStack.{ScopeStack}
-use Rattle.walk_given.specs.GivenModel.{fresh, given, globalsFrom}
-
--- ---- n rows are cleared, and i of them are
-module _ (n i : ℕ) (w : List ℕ) where
-  pub fresh-more : (z : List ℕ) → i < n → z ≡ forgotten w i → fresh (n - (i + 1)) (i + 1) z ≡ fresh (n - i) i w
-  unfolding fresh
-  fresh-more z l p = let e : n - i ≡ suc (n - (i + 1)) = omega arith in ap (fresh (n - (i + 1)) (i + 1)) p ∙ sym (ap (λ k. fresh k i w) e)
-
-  pub fresh-end : n ≤ i → fresh (n - i) i w ≡ w
-  unfolding fresh
-  fresh-end l = let e : n - i ≡ 0 = omega arith in ap (λ k. fresh k i w) e
+use Rattle.walk_given.specs.GivenModel.{given, globalsFrom}
 
 -- ---- the names that the lengths ns cut from the bytes bs, from place k and byte at on; a is the number of the next
 module _ (text : Bytes) (s : ScopeStack) (ns bs : List ℕ) (w : List ℕ) where

@@ -5,14 +5,9 @@ use Rattle.spec_text.specs.Bytes.{Bytes}
 use Rattle.walk_builtins.specs.Table.{names}
 use Rattle.work_rows.specs.Layout.{numberAt}
 use Rattle.read_names.specs.ChainsModel.{lookup}
-use Rattle.work_marks.specs.MarksModel.{forgotten}
+use Rattle.work_marks.specs.MarksModel.{unmarked, unstamped}
 use Rattle.walk_scopes.specs.ScopesModel.{defined}
 use Rattle.walk_scopes.specs.declared.ScopeStack.{ScopeStack}
-
--- no mark, no slot, no stamp: of n rows from row i on
-unfoldable pub fresh : ℕ → ℕ → List ℕ → List ℕ
-fresh zero i w = w
-fresh (suc n) i w = fresh n (i + 1) (forgotten w i)
 
 -- the given names: built in, and those of n `global` lines from row i on
 unfoldable pub given : Bytes → ScopeStack → List Bytes → List ℕ → List ℕ
@@ -25,4 +20,4 @@ globalsFrom (suc n) i s w = globalsFrom n (i + 1) s (defined s w (numberAt w i))
 
 -- before the first statement: of so many rows, of which so many are `global` lines
 unfoldable pub begun : Bytes → ScopeStack → ℕ → ℕ → List ℕ → List ℕ
-begun text s globals rows w = globalsFrom globals 0 s (given text s names (fresh rows 0 w))
+begun text s globals rows w = globalsFrom globals 0 s (given text s names (unstamped rows (unmarked rows w)))

@@ -2,20 +2,9 @@
 use walk_scopes::ScopeStack;
 ghost use mathlib.Core.Path.{_≡_};
 ghost use Prim.Native.Nat.{_<_, _≤_};
+ghost use lib.ListN.{length};
 ghost use Rattle.walk_builtins.specs.Table.{names, Rule};
-ghost use Rattle.walk_given.specs.GivenModel.{fresh, given, globalsFrom, begun};
-
-// Forgets all marks, slots and stamps of the rows.
-fn clear(work: &mut [u32], rows: usize)
-    requires { ⌜ rows ≤ 4096 ⌝ }
-    ensures { λ _. ⌜ now (work .exit) ≡ fresh rows 0 (now (work .entry)) ⌝ }
-{
-    let mut i = 0;
-    while i < rows {
-        work_marks::forget(work, i);
-        i += 1;
-    }
-}
+ghost use Rattle.walk_given.specs.GivenModel.{given, globalsFrom, begun};
 
 // Binds the names that lengths cuts from bytes.
 fn define_names(text: &[u8], work: &mut [u32], s: ScopeStack, bytes: &[u8], lengths: &[u8])
@@ -56,10 +45,11 @@ fn define_globals(work: &mut [u32], s: ScopeStack, globals: usize)
 
 // Before the first statement of so many rows, of which so many are `global` lines.
 pub fn bind_given(text: &[u8], work: &mut [u32], s: ScopeStack, globals: usize, rows: usize)
-    requires { ⌜ (globals ≤ 4096) × (rows ≤ 4096) ⌝ }
+    requires { ⌜ (globals ≤ 4096) × (rows ≤ 4096) × (16384 ≤ length (now work)) ⌝ }
     ensures { λ _. ⌜ now (work .exit) ≡ begun (now (text .entry)) s globals rows (now (work .entry)) ⌝ }
 {
-    clear(work, rows);
+    work_marks::forget_marks(work, rows);
+    work_marks::forget_stamps(work, rows);
     define_builtins(text, work, s);
     define_globals(work, s, globals)
 }

@@ -1,15 +1,15 @@
 -- The definitions by their tests: the kind of a fault, the way of a fault of a kind that blames a lambda, and the ways of a read.
-use Prim.Native.Nat.{ℕ, _+_, _≤_, _<_}
+use Prim.Native.Nat.{ℕ, _≤_, _<_}
 use mathlib.Core.Path.{_≡_, sym, ap, _∙_}
 use mathlib.Core.Bool.{Bool, true, false, cond}
 use mathlib.Core.List.{List}
-use lib.Dec.{eqb, ltb}
+use lib.Dec.{eqb}
 use borrow.Author.Tests.{lt-ltb, le-ltb, eq-eqb, ne-eqb}
 use Rattle.spec_faults.specs.Faults.{capture}
-use Rattle.work_marks.specs.MarksModel.{lambdaEnd, raisedLambda, putSlot, ownerAt, fromAt}
+use Rattle.work_marks.specs.MarksModel.{lambdaEnd, raisedLambda, putSlot, flagAt}
 use Rattle.walk_scopes.specs.ScopesModel.{aDef, module′, isDefined}
 use Rattle.walk_scopes.specs.declared.ScopeStack.{ScopeStack}
-use Rattle.walk_judge.specs.JudgeModel.{unboundKind, undefinedKind, faulted, isOwn, readOf}
+use Rattle.walk_judge.specs.JudgeModel.{unboundKind, undefinedKind, faulted, flagIn, readOf}
 
 -- ---- the kind of a fault
 module _ (s : ScopeStack) (called : Bool) where
@@ -44,15 +44,17 @@ module _ (s : ScopeStack) (a i k : ℕ) (w : List ℕ) where
   unfolding faulted
   faulted-plain e = rw e
 
--- ---- a name is an own one, by the def t that has it
-module _ (s : ScopeStack) (a : ℕ) (w : List ℕ) where
-  pub own-by : s .home ≡ aDef → (t : ℕ) → t ≡ ownerAt w a → (b : Bool) → eqb t (s .block + 1) ≡ b → isOwn s w a ≡ b
-  own-by h t e b q = rw (eq-eqb (s .home) aDef h, ← e) q
+-- ---- how the name of row i stands to its home
+module _ (s : ScopeStack) (w : List ℕ) (i : ℕ) where
+  pub flag-def : s .home ≡ aDef → flagIn s w i ≡ flagAt w i
+  unfolding flagIn
+  flag-def e = rw (eq-eqb (s .home) aDef e)
 
-  pub own-not : (s .home ≡ aDef → ⊥) → isOwn s w a ≡ false
-  own-not d = rw (ne-eqb (s .home) aDef d)
+  pub flag-other : (s .home ≡ aDef → ⊥) → flagIn s w i ≡ 0
+  unfolding flagIn
+  flag-other d = rw (ne-eqb (s .home) aDef d)
 
--- ---- the read of the name a at row i
+-- ---- the read of the name a at row i, whose flag is f
 module _ (s : ScopeStack) (called : Bool) (a i : ℕ) (w : List ℕ) where
   pub read-param : i < lambdaEnd w a → w ≡ readOf s called a i w
   unfolding readOf
@@ -60,24 +62,24 @@ module _ (s : ScopeStack) (called : Bool) (a i : ℕ) (w : List ℕ) where
 
   -- what the read comes to, past the marks of lambdas
   abbrev read-rest : Bool → Bool → Bool → List ℕ
-  read-rest own early seen =
-      cond own (cond early (faulted s a i (unboundKind s called) w) w) (cond seen w (faulted s a i (undefinedKind s called) w))
+  read-rest assigned unassigned seen =
+      cond assigned w (cond unassigned (faulted s a i (unboundKind s called) w) (cond seen w (faulted s a i (undefinedKind s called) w)))
 
-  module _ (l : lambdaEnd w a ≤ i) where
-    read-by : readOf s called a i w ≡ read-rest (isOwn s w a) (ltb i (fromAt w a)) (isDefined w a i)
+  module _ (l : lambdaEnd w a ≤ i) (f : ℕ) (e : f ≡ flagIn s w i) where
+    read-by : readOf s called a i w ≡ read-rest (eqb f 1) (eqb f 2) (isDefined w a i)
     unfolding readOf
-    read-by = rw (le-ltb i (lambdaEnd w a) l)
+    read-by = rw (le-ltb i (lambdaEnd w a) l, ← e)
 
-    pub read-unbound : isOwn s w a ≡ true → i < fromAt w a → (k : ℕ) (z : List ℕ) → k ≡ unboundKind s called → z ≡ faulted s a i k w
-        → z ≡ readOf s called a i w
-    read-unbound o m k z p q = q ∙ (ap (λ y. faulted s a i y w) p ∙ sym (read-by ∙ rw (o, lt-ltb i (fromAt w a) m)))
+    pub read-assigned : f ≡ 1 → w ≡ readOf s called a i w
+    read-assigned o = sym (read-by ∙ rw (eq-eqb f 1 o))
 
-    pub read-own : isOwn s w a ≡ true → fromAt w a ≤ i → w ≡ readOf s called a i w
-    read-own o m = sym (read-by ∙ rw (o, le-ltb i (fromAt w a) m))
+    module _ (n : f ≡ 1 → ⊥) where
+      pub read-unbound : f ≡ 2 → (k : ℕ) (z : List ℕ) → k ≡ unboundKind s called → z ≡ faulted s a i k w → z ≡ readOf s called a i w
+      read-unbound o k z p q = q ∙ (ap (λ y. faulted s a i y w) p ∙ sym (read-by ∙ rw (ne-eqb f 1 n, eq-eqb f 2 o)))
 
-    pub read-in-view : isOwn s w a ≡ false → isDefined w a i ≡ true → w ≡ readOf s called a i w
-    read-in-view o m = sym (read-by ∙ rw (o, m))
+      module _ (m : f ≡ 2 → ⊥) where
+        pub read-in-view : isDefined w a i ≡ true → w ≡ readOf s called a i w
+        read-in-view d = sym (read-by ∙ rw (ne-eqb f 1 n, ne-eqb f 2 m, d))
 
-    pub read-undefined : isOwn s w a ≡ false → isDefined w a i ≡ false → (k : ℕ) (z : List ℕ) → k ≡ undefinedKind s called → z ≡ faulted s a i k w
-        → z ≡ readOf s called a i w
-    read-undefined o m k z p q = q ∙ (ap (λ y. faulted s a i y w) p ∙ sym (read-by ∙ rw (o, m)))
+        pub read-undefined : isDefined w a i ≡ false → (k : ℕ) (z : List ℕ) → k ≡ undefinedKind s called → z ≡ faulted s a i k w → z ≡ readOf s called a i w
+        read-undefined d k z p q = q ∙ (ap (λ y. faulted s a i y w) p ∙ sym (read-by ∙ rw (ne-eqb f 1 n, ne-eqb f 2 m, d)))

@@ -1,10 +1,10 @@
 -- What a read does to the work buffer: the kind of its fault goes to its row's slot.
-use Prim.Native.Nat.{ℕ, _+_}
-use mathlib.Core.Bool.{Bool, cond, _&&_}
+use Prim.Native.Nat.{ℕ}
+use mathlib.Core.Bool.{Bool, cond}
 use mathlib.Core.List.{List}
 use lib.Dec.{eqb, ltb}
 use Rattle.spec_faults.specs.Faults.{capture}
-use Rattle.work_marks.specs.MarksModel.{lambdaEnd, raisedLambda, putSlot, ownerAt, fromAt}
+use Rattle.work_marks.specs.MarksModel.{lambdaEnd, raisedLambda, putSlot, flagAt}
 use Rattle.walk_scopes.specs.ScopesModel.{aDef, module′, isDefined}
 use Rattle.walk_scopes.specs.declared.ScopeStack.{ScopeStack}
 
@@ -20,11 +20,14 @@ undefinedKind s called = cond (eqb (s .outer) 0) (cond called 9 8) (cond (eqb (s
 unfoldable pub faulted : ScopeStack → ℕ → ℕ → ℕ → List ℕ → List ℕ
 faulted s a i k w = cond (capture k) (raisedLambda (putSlot w i k) a (s .outer)) (putSlot w i k)
 
-abbrev pub isOwn : ScopeStack → List ℕ → ℕ → Bool
-isOwn s w a = eqb (s .home) aDef && eqb (ownerAt w a) (s .block + 1)
+-- how the name of row i stands to its home, a def; to another home it is no own name
+unfoldable pub flagIn : ScopeStack → List ℕ → ℕ → ℕ
+flagIn s w i = cond (eqb (s .home) aDef) (flagAt w i) 0
 
+-- 1 an own name that is assigned, 2 one that is not
 unfoldable pub readOf : ScopeStack → Bool → ℕ → ℕ → List ℕ → List ℕ
 readOf s called a i w =
     cond (ltb i (lambdaEnd w a)) w
-    (cond (isOwn s w a) (cond (ltb i (fromAt w a)) (faulted s a i (unboundKind s called) w) w)
-    (cond (isDefined w a i) w (faulted s a i (undefinedKind s called) w)))
+    (cond (eqb (flagIn s w i) 1) w
+    (cond (eqb (flagIn s w i) 2) (faulted s a i (unboundKind s called) w)
+    (cond (isDefined w a i) w (faulted s a i (undefinedKind s called) w))))

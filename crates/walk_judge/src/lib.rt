@@ -3,11 +3,14 @@ use spec_faults::fault_kind;
 use walk_scopes::HOME_DEF;
 use walk_scopes::HOME_MODULE;
 use walk_scopes::ScopeStack;
+use work_marks::ASSIGNED;
+use work_marks::NOT_OWN;
+use work_marks::UNASSIGNED;
 ghost use mathlib.Core.Path.{_≡_};
 ghost use Prim.Native.Nat.{_<_};
 ghost use Rattle.spec_faults.specs.Faults.{lacksSelf};
 ghost use Rattle.read_row.specs.RowModel.{paramsOf};
-ghost use Rattle.walk_judge.specs.JudgeModel.{unboundKind, undefinedKind, faulted, readOf};
+ghost use Rattle.walk_judge.specs.JudgeModel.{unboundKind, undefinedKind, faulted, flagIn, readOf};
 
 // The kind of a fault of an own name that is not assigned.
 fn unbound_kind(s: ScopeStack, called: bool) -> usize
@@ -50,19 +53,31 @@ fn fault(work: &mut [u32], s: ScopeStack, name: usize, i: usize, kind: usize)
     }
 }
 
+// How the name of row i stands to the def that is its home; to another home it is no own name.
+fn flag_in(work: &[u32], s: ScopeStack, i: usize) -> usize
+    requires { ⌜ i < 4294967296 ⌝ }
+    ensures { λ r. ⌜ r ≡ flagIn s (now (work .entry)) i ⌝ }
+{
+    if s.home == HOME_DEF {
+        return work_marks::flag(work, i);
+    }
+    NOT_OWN
+}
+
 // Judges the read at row i, of a name.
 pub fn judge_read(work: &mut [u32], s: ScopeStack, called: bool, name: usize, i: usize)
-    requires { ⌜ (i < 4294967296) × (name < 4294967296) × (s .block < 4294967296) ⌝ }
+    requires { ⌜ (i < 4294967296) × (name < 4294967296) ⌝ }
     ensures { λ _. ⌜ now (work .exit) ≡ readOf s called name i (now (work .entry)) ⌝ }
 {
     if i < work_marks::lambda_end(work, name) {
         return;
     }
-    let owner = work_marks::owner(work, name);
-    if s.home == HOME_DEF && owner == s.block + 1 {
-        if i < work_marks::assigned_from(work, name) {
-            fault(work, s, name, i, unbound_kind(s, called));
-        }
+    let flag = flag_in(work, s, i);
+    if flag == ASSIGNED {
+        return;
+    }
+    if flag == UNASSIGNED {
+        fault(work, s, name, i, unbound_kind(s, called));
         return;
     }
     if s.is_defined(work, name, i) {

@@ -16,7 +16,7 @@ use Rattle.walk_scopes.specs.ScopesModel.{aDef, aMethod, module′, atModule, p
 use Rattle.walk_scopes.specs.declared.ScopeStack.{ScopeStack}
 use Rattle.read_row.specs.RowModel.{paramsOf}
 use Rattle.walk_judge.specs.JudgeModel.{readOf}
-use Rattle.walk_blocks.specs.BlocksModel.{opened, reopened}
+use Rattle.walk_blocks.specs.BlocksModel.{opened}
 use Rattle.walk_given.specs.GivenModel.{begun}
 use Rattle.walk_tree.specs.WalkModel.{nextTarget, targetAt, exprAt, stmtAt, blockAt, methodAt, walkExpr, walkStmt, walkLine, walkExprs, walkStmts, walked}
 
@@ -176,7 +176,7 @@ module _ (text : Bytes) (s : ScopeStack) (i : ℕ) (w : List ℕ) where
     module _ (near : i < rowsMost) where
       abbrev stmt-kind : ℕ → List ℕ
       stmt-kind k =
-          cond (eqb k 5) (reopened text s (blockAt (walkLine (left - 1) text) text (pushed s aDef i (afterRow w i)) i (defined s w (numberAt w i))))
+          cond (eqb k 5) (blockAt (walkLine (left - 1) text) text (pushed s aDef i (afterRow w i)) i (defined s w (numberAt w i)))
           (cond (eqb k 6)
           (rowsTo nextTarget (targetAt (walkExpr (left - 1) text false s) s) (afterRow w (i + 1)) (afterRow w i) (walkExpr (left - 1) text false s (i + 1) w))
           (cond (eqb k 10)
@@ -210,16 +210,12 @@ module _ (text : Bytes) (s : ScopeStack) (i : ℕ) (w : List ℕ) where
             r ∙ (ap (λ j. walkStmts (left - 1) text s (i + 1) j v) end ∙ sym (class-by ∙ rw (eq-eqb (s .home) module′ h)))
 
       module _ (stop : ℕ) (end : stop ≡ afterRow w i) where
-        pub stmt-def : (n : ℕ) (inner below : ScopeStack) (v x z : List ℕ) → kindAt w i ≡ 5 → n ≡ numberAt w i → v ≡ defined s w n → inner ≡ pushed s aDef i stop
-            → x ≡ blockAt (walkLine (left - 1) text) text inner i v → below ≡ s → z ≡ reopened text below x → z ≡ walkStmt left text s i w
-        stmt-def n inner below v x z e p q g b u r =
-            r
-            ∙ (ap (λ t. reopened text t x) u
-            ∙ (ap (reopened text s)
-            (b
+        pub stmt-def : (n : ℕ) (inner : ScopeStack) (v z : List ℕ) → kindAt w i ≡ 5 → n ≡ numberAt w i → v ≡ defined s w n → inner ≡ pushed s aDef i stop
+            → z ≡ blockAt (walkLine (left - 1) text) text inner i v → z ≡ walkStmt left text s i w
+        stmt-def n inner v z e p q g b =
+            b
             ∙ (ap (λ t. blockAt (walkLine (left - 1) text) text t i v) (g ∙ ap (pushed s aDef i) end)
-            ∙ ap (blockAt (walkLine (left - 1) text) text (pushed s aDef i (afterRow w i)) i) (q ∙ ap (defined s w) p)))
-            ∙ sym (stmt-by 5 e)))
+            ∙ (ap (blockAt (walkLine (left - 1) text) text (pushed s aDef i (afterRow w i)) i) (q ∙ ap (defined s w) p) ∙ sym (stmt-by 5 e)))
 
         pub stmt-method : (inner : ScopeStack) (v z : List ℕ) → kindAt w i ≡ 14 → v ≡ methodAt text i w → inner ≡ pushed s aMethod i stop
             → z ≡ blockAt (walkLine (left - 1) text) text inner i v → z ≡ walkStmt left text s i w

@@ -13,7 +13,7 @@ use Rattle.walk_scopes.specs.ScopesModel.{aDef, aMethod, module′, atModule, p
 use Rattle.walk_scopes.specs.declared.ScopeStack.{ScopeStack}
 use Rattle.read_row.specs.RowModel.{paramsOf}
 use Rattle.walk_judge.specs.JudgeModel.{readOf}
-use Rattle.walk_blocks.specs.BlocksModel.{opened, reopened}
+use Rattle.walk_blocks.specs.BlocksModel.{opened}
 use Rattle.walk_given.specs.GivenModel.{begun}
 
 -- ---- targets, one row after the other: 17 var, 24 tuple, 20 index, 22 get; `value` walks an expression
@@ -46,7 +46,7 @@ methodAt text i w = cond (lacksSelf (paramsOf text w i)) (putSlot w i 15) w
 -- 5 def, 6 assign, 10 for, 13 class, 14 method, 15 attr
 unfoldable pub stmtAt : (Bool → ScopeStack → ℕ → List ℕ → List ℕ) → (ScopeStack → ℕ → List ℕ → List ℕ) → Bytes → ScopeStack → ℕ → List ℕ → List ℕ
 stmtAt value line text s i w =
-    cond (eqb (kindAt w i) 5) (reopened text s (blockAt line text (pushed s aDef i (afterRow w i)) i (defined s w (numberAt w i))))
+    cond (eqb (kindAt w i) 5) (blockAt line text (pushed s aDef i (afterRow w i)) i (defined s w (numberAt w i)))
     (cond (eqb (kindAt w i) 6) (rowsTo nextTarget (targetAt (value false s) s) (afterRow w (i + 1)) (afterRow w i) (value false s (i + 1) w))
     (cond (eqb (kindAt w i) 10) (rowsTo afterRow (line s) (afterRow w (i + 1)) (afterRow w i) (defined s (value false s (i + 1) w) (numberAt w i)))
     (cond (eqb (kindAt w i) 13)

@@ -12,6 +12,7 @@ use work_rows::ROWS_MOST;
 ghost use mathlib.Core.Path.{_≡_};
 ghost use mathlib.Core.Bool.{false};
 ghost use Prim.Native.Nat.{_<_, _≤_};
+ghost use lib.ListN.{length};
 ghost use Rattle.work_rows.specs.LoopsModel.{rowsTo};
 ghost use Rattle.walk_tree.specs.WalkModel.{nextTarget, targetAt, walkExpr, walkStmt, walkExprs, walkStmts, methodAt, blockAt, walkLine, walked};
 
@@ -117,8 +118,7 @@ fn walk_stmt(text: &[u8], work: &mut [u32], left: usize, s: ScopeStack, i: usize
         line_kind::DEF => {
             s.define(work, work_rows::number(work, i));
             let inner = s.push(HOME_DEF, i, stop);
-            walk_block(text, work, left - 1, inner, i);
-            walk_blocks::reenter_block(text, work, inner.pop(s))
+            walk_block(text, work, left - 1, inner, i)
         }
         line_kind::ASSIGN => {
             let target = work_rows::after_row(work, i + 1);
@@ -197,7 +197,7 @@ fn walk_stmts(text: &[u8], work: &mut [u32], left: usize, s: ScopeStack, first: 
 
 // Walks the tree of so many `global` lines and so many rows: afterwards the slot of each row has the kind of its fault, or 0.
 pub fn walk(text: &[u8], work: &mut [u32], globals: usize, rows: usize)
-    requires { ⌜ (globals ≤ 4096) × (rows ≤ 4096) ⌝ }
+    requires { ⌜ (globals ≤ 4096) × (rows ≤ 4096) × (16384 ≤ length (now work)) ⌝ }
     ensures { λ _. ⌜ now (work .exit) ≡ walked (now (text .entry)) globals rows (now (work .entry)) ⌝ }
 {
     let s = ScopeStack::new(rows);

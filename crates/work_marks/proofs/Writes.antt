@@ -1,4 +1,4 @@
--- What each write of a mark, a slot or a stamp leaves in the work buffer: what is written is there, the same of other names and rows
+-- What each write of a mark, a slot, a stamp or a flag leaves in the work buffer: what is written is there, the same of other names and rows
 -- stays, and so does all else (`Kept`: the rows, the second numbers, the heads). It follows from one law: where a number is written, a
 -- part of the numbers stays if the number that stood there had the same part.
 use Prim.Native.Nat.{ℕ, _+_, _/_, _%_, _≤_, _<_, max}
@@ -11,7 +11,7 @@ use lib.ListN.{length, getD, length-set}
 use lib.Seq.{getD-set-same, getD-set-other, set-out}
 use borrow.Author.Tests.{eqb-true, eqb-false, ltb-true, ltb-false}
 use Rattle.work_rows.specs.Layout.{put, rowsMost, headBase, kindAt, numberAt}
-use Rattle.work_marks.specs.MarksModel.{stampBase, lambdaEnd, blockEnd, slotAt, stampAt, putLambdaEnd, putBlockEnd, raisedLambda, raisedBlock, putSlot, putStamp}
+use Rattle.work_marks.specs.MarksModel.{stampBase, lambdaEnd, blockEnd, slotAt, stampAt, flagAt, putLambdaEnd, putBlockEnd, raisedLambda, raisedBlock, putSlot, putStamp, putFlag, bare}
 use Rattle.work_marks.proofs.Raised.{raise-has}
 
 -- ---- a number is written
@@ -103,8 +103,9 @@ module _ (w : List ℕ) (a e : ℕ) where
   pub raised-lambda-slot : (i : ℕ) → slotAt (raisedLambda w a e) i ≡ slotAt w i
   raised-lambda-slot i = ap (λ x. x / 67_108_864) (raised-lambda-apart (headBase + i) (λ l p. omega arith))
 
-  pub raised-lambda-stamp : (b : ℕ) → stampAt (raisedLambda w a e) b ≡ stampAt w b
-  raised-lambda-stamp b = raised-lambda-apart (stampBase + b) (λ l p. omega arith)
+  -- all fourth numbers
+  pub raised-lambda-fourth : (b : ℕ) → getD (raisedLambda w a e) (stampBase + b) 0 ≡ getD w (stampBase + b) 0
+  raised-lambda-fourth b = raised-lambda-apart (stampBase + b) (λ l p. omega arith)
 
   pub kept-raised-lambda : Kept w (raisedLambda w a e)
   kept-raised-lambda =
@@ -140,8 +141,8 @@ module _ (w : List ℕ) (a e : ℕ) where
       block-has (λ v. slotAt v i ≡ slotAt w i) (λ _. refl)
       (λ _ _. put-keeps (λ x. x / 67_108_864) w (headBase + a) _ (omega (arith, h (headBase + a))) (headBase + i))
 
-  pub raised-block-stamp : (b : ℕ) → stampAt (raisedBlock w a e) b ≡ stampAt w b
-  raised-block-stamp b = raised-block-apart (stampBase + b) (λ l p. omega arith)
+  pub raised-block-fourth : (b : ℕ) → getD (raisedBlock w a e) (stampBase + b) 0 ≡ getD w (stampBase + b) 0
+  raised-block-fourth b = raised-block-apart (stampBase + b) (λ l p. omega arith)
 
   pub kept-raised-block : Kept w (raisedBlock w a e)
   kept-raised-block =
@@ -171,8 +172,8 @@ module _ (w : List ℕ) (i k : ℕ) where
   unfolding putSlot
   slot-block b = put-keeps (λ x. x / 8_192 % 8_192) w (headBase + i) _ (omega arith) (headBase + b)
 
-  pub slot-stamp : i < 4_096 → (b : ℕ) → stampAt (putSlot w i k) b ≡ stampAt w b
-  slot-stamp l b = slot-apart (stampBase + b) (λ p. omega arith)
+  pub slot-fourth : i < 4_096 → (b : ℕ) → getD (putSlot w i k) (stampBase + b) 0 ≡ getD w (stampBase + b) 0
+  slot-fourth l b = slot-apart (stampBase + b) (λ p. omega arith)
 
   pub kept-slot : Kept w (putSlot w i k)
   unfolding putSlot
@@ -182,29 +183,49 @@ module _ (w : List ℕ) (i k : ℕ) where
   unfolding putSlot
   words-slot h = words-put w (headBase + i) _ h
 
--- ---- a stamp is written
+-- ---- of a third number the head alone stays
+pub bare-kept : (i : ℕ) (w : List ℕ) → Kept w (bare i w)
+bare-kept i w = kept-put w (headBase + i) _ (λ m. absurd (omega arith)) (λ m. absurd (omega arith)) (λ _ _. omega arith)
+
+-- ---- a fourth number is written
 module _ (w : List ℕ) (a v : ℕ) where
-  pub stamp-same : 16_384 ≤ length w → a < 4_096 → v < 4_294_967_296 → stampAt (putStamp w a v) a ≡ v
-  stamp-same room l s = getD-set-same w (stampBase + a) _ 0 (omega arith) ∙ omega arith
+  -- all numbers before the fourth ones
+  pub fourth-apart : (j : ℕ) → j < 12_288 → getD (put w (stampBase + a) v) j 0 ≡ getD w j 0
+  fourth-apart j l = put-other w (stampBase + a) v j (λ p. omega arith)
+
+  pub fourth-lambda : (b : ℕ) → b < 4_096 → lambdaEnd (put w (stampBase + a) v) b ≡ lambdaEnd w b
+  fourth-lambda b l = ap (λ x. x / 131_072) (fourth-apart b (omega arith))
+
+  pub fourth-block : (b : ℕ) → b < 4_096 → blockEnd (put w (stampBase + a) v) b ≡ blockEnd w b
+  fourth-block b l = ap (λ x. x / 8_192 % 8_192) (fourth-apart (headBase + b) (omega arith))
+
+  pub fourth-slot : (i : ℕ) → i < 4_096 → slotAt (put w (stampBase + a) v) i ≡ slotAt w i
+  fourth-slot i l = ap (λ x. x / 67_108_864) (fourth-apart (headBase + i) (omega arith))
+
+  pub kept-fourth : Kept w (put w (stampBase + a) v)
+  kept-fourth = kept-put w (stampBase + a) v (λ m. absurd (omega arith)) (λ m. absurd (omega arith)) (λ m. absurd (omega arith))
+
+  pub words-fourth : Words w → Words (put w (stampBase + a) v)
+  words-fourth h = words-put w (stampBase + a) v h
+
+-- a stamp
+module _ (w : List ℕ) (a v : ℕ) where
+  pub stamp-same : 16_384 ≤ length w → a < 4_096 → v < 8_192 → stampAt (putStamp w a v) a ≡ v
+  stamp-same room l s = ap (λ x. x % 8_192) (getD-set-same w (stampBase + a) _ 0 (omega arith)) ∙ omega arith
 
   pub stamp-other : (b : ℕ) → (b ≡ a → ⊥) → stampAt (putStamp w a v) b ≡ stampAt w b
-  stamp-other b d = put-other w (stampBase + a) v (stampBase + b) (λ p. d (omega arith))
+  stamp-other b d = ap (λ x. x % 8_192) (put-other w (stampBase + a) _ (stampBase + b) (λ p. d (omega arith)))
 
-  -- all numbers before the stamps
-  pub stamp-apart : (j : ℕ) → j < 12_288 → getD (putStamp w a v) j 0 ≡ getD w j 0
-  stamp-apart j l = put-other w (stampBase + a) v j (λ p. omega arith)
+  pub stamp-flag : Words w → (i : ℕ) → flagAt (putStamp w a v) i ≡ flagAt w i
+  stamp-flag h i = put-keeps (λ x. x / 8_192) w (stampBase + a) _ (omega (arith, h (stampBase + a))) (stampBase + i)
 
-  pub stamp-lambda : (b : ℕ) → b < 4_096 → lambdaEnd (putStamp w a v) b ≡ lambdaEnd w b
-  stamp-lambda b l = ap (λ x. x / 131_072) (stamp-apart b (omega arith))
+-- a flag
+module _ (w : List ℕ) (i f : ℕ) where
+  pub flag-same : 16_384 ≤ length w → i < 4_096 → f < 4 → flagAt (putFlag w i f) i ≡ f
+  flag-same room l s = ap (λ x. x / 8_192) (getD-set-same w (stampBase + i) _ 0 (omega arith)) ∙ omega arith
 
-  pub stamp-block : (b : ℕ) → b < 4_096 → blockEnd (putStamp w a v) b ≡ blockEnd w b
-  stamp-block b l = ap (λ x. x / 8_192 % 8_192) (stamp-apart (headBase + b) (omega arith))
+  pub flag-other : (j : ℕ) → (j ≡ i → ⊥) → flagAt (putFlag w i f) j ≡ flagAt w j
+  flag-other j d = ap (λ x. x / 8_192) (put-other w (stampBase + i) _ (stampBase + j) (λ p. d (omega arith)))
 
-  pub stamp-slot : (i : ℕ) → i < 4_096 → slotAt (putStamp w a v) i ≡ slotAt w i
-  stamp-slot i l = ap (λ x. x / 67_108_864) (stamp-apart (headBase + i) (omega arith))
-
-  pub kept-stamp : Kept w (putStamp w a v)
-  kept-stamp = kept-put w (stampBase + a) v (λ m. absurd (omega arith)) (λ m. absurd (omega arith)) (λ m. absurd (omega arith))
-
-  pub words-stamp : Words w → Words (putStamp w a v)
-  words-stamp h = words-put w (stampBase + a) v h
+  pub flag-stamp : (a : ℕ) → stampAt (putFlag w i f) a ≡ stampAt w a
+  flag-stamp a = put-keeps (λ x. x % 8_192) w (stampBase + i) _ (omega arith) (stampBase + a)

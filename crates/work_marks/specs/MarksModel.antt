@@ -2,13 +2,16 @@
 --   i           131072 * lambda end               the outermost lambda, of those around, that has the name i as a parameter
 --   8192 + i    8192 * block end                  the outermost block, of those around, that binds the name i
 --               67108864 * slot                   the kind of row i's fault, or 0
---   12288 + i   8192 * (def + 1) + first          the def that has the name i of its own, and the row from which it is assigned there
+--   12288 + i   stamp                             the row from which the name i is assigned in the def whose own names are being gathered
+--               8192 * flag                       how the name of the `var` at row i stands to the def around: 0 none of its own names,
+--                                                 1 one that is assigned there, 2 one that is not
 use Prim.Native.Nat.{ℕ, _+_, _*_, _/_, _%_}
 use mathlib.Core.Bool.{cond}
 use mathlib.Core.List.{List}
 use lib.Dec.{ltb}
 use lib.ListN.{getD}
 use Rattle.work_rows.specs.Layout.{put, rowsMost, headBase}
+use Rattle.work_rows.specs.LoopsModel.{rowsTo, nextRow}
 
 -- ---- marks: a name is open at a row before the end of its mark
 abbrev pub lambdaEnd : List ℕ → ℕ → ℕ
@@ -38,30 +41,35 @@ slotAt w i = getD w (headBase + i) 0 / 67_108_864
 unfoldable pub putSlot : List ℕ → ℕ → ℕ → List ℕ
 putSlot w i k = put w (headBase + i) (getD w (headBase + i) 0 % 67_108_864 + 67_108_864 * (k % 16))
 
--- ---- stamps
+-- ---- stamps and flags
 abbrev pub stampBase : ℕ
 stampBase = 12_288
 
 abbrev pub stampAt : List ℕ → ℕ → ℕ
-stampAt w a = getD w (stampBase + a) 0
+stampAt w a = getD w (stampBase + a) 0 % 8_192
 
 abbrev pub putStamp : List ℕ → ℕ → ℕ → List ℕ
-putStamp w a v = put w (stampBase + a) v
+putStamp w a from = put w (stampBase + a) (from % 8_192 + 8_192 * (getD w (stampBase + a) 0 / 8_192))
 
--- the row of the def that has the name a of its own, and one, or 0; the row from which it is assigned there
-abbrev pub ownerAt : List ℕ → ℕ → ℕ
-ownerAt w a = stampAt w a / 8_192
+abbrev pub flagAt : List ℕ → ℕ → ℕ
+flagAt w i = getD w (stampBase + i) 0 / 8_192
 
-abbrev pub fromAt : List ℕ → ℕ → ℕ
-fromAt w a = stampAt w a % 8_192
-
-abbrev pub putOwn : List ℕ → ℕ → ℕ → ℕ → List ℕ
-putOwn w a def from = putStamp w a (8_192 * (def + 1) + from % 8_192)
+abbrev pub putFlag : List ℕ → ℕ → ℕ → List ℕ
+putFlag w i f = put w (stampBase + i) (getD w (stampBase + i) 0 % 8_192 + 8_192 * (f % 4))
 
 -- a row that no read is at or after: bound, and never assigned
 abbrev pub never : ℕ
 never = 8_191
 
--- no mark of a block, no slot, no stamp
-abbrev pub forgotten : List ℕ → ℕ → List ℕ
-forgotten w i = putStamp (put w (headBase + i) (getD w (headBase + i) 0 % 8_192)) i 0
+-- ---- what is left of the first rows: of a third number the head, of a fourth nothing
+abbrev pub bare : ℕ → List ℕ → List ℕ
+bare i w = put w (headBase + i) (getD w (headBase + i) 0 % 8_192)
+
+abbrev pub unmarked : ℕ → List ℕ → List ℕ
+unmarked rows w = rowsTo nextRow bare 0 rows w
+
+abbrev pub blank : ℕ → List ℕ → List ℕ
+blank i w = put w (stampBase + i) 0
+
+abbrev pub unstamped : ℕ → List ℕ → List ℕ
+unstamped rows w = rowsTo nextRow blank 0 rows w

@@ -3,8 +3,9 @@ use work_rows::HEAD_BASE;
 use work_rows::LINE_KINDS;
 use work_rows::ROWS_MOST;
 ghost use mathlib.Core.Path.{_≡_};
-ghost use Prim.Native.Nat.{_+_, _<_};
-ghost use Rattle.work_marks.specs.MarksModel.{lambdaEnd, blockEnd, slotAt, stampAt, ownerAt, fromAt, putLambdaEnd, putBlockEnd, putSlot, putStamp, putOwn, forgotten, raisedLambda, raisedBlock};
+ghost use Prim.Native.Nat.{_+_, _<_, _≤_};
+ghost use lib.ListN.{length};
+ghost use Rattle.work_marks.specs.MarksModel.{lambdaEnd, blockEnd, slotAt, stampAt, flagAt, putLambdaEnd, putBlockEnd, putSlot, putStamp, putFlag, unmarked, unstamped, raisedLambda, raisedBlock};
 
 // Where the stamps stand.
 const STAMP_BASE: usize = 12288;
@@ -16,6 +17,15 @@ const MARKS: usize = 8192;
 
 // A row that no read is at or after: the largest that a stamp holds.
 pub const NEVER: usize = 8191;
+
+// Flags: the name is none of the def's own names; it is one, and assigned at that row; it is one, and not assigned.
+pub const NOT_OWN: usize = 0;
+
+pub const ASSIGNED: usize = 1;
+
+pub const UNASSIGNED: usize = 2;
+
+const FLAGS: usize = 4;
 
 const SLOTS: usize = 67108864;
 
@@ -93,51 +103,58 @@ pub fn put_slot(work: &mut [u32], i: usize, kind: usize)
     work_rows::put(work, HEAD_BASE + i, x + SLOTS * (kind % SLOT_KINDS))
 }
 
-// A stamp: the def that has the name of its own, and the row from which it is assigned there.
-fn stamp(work: &[u32], name: usize) -> usize
+// The stamp of a name: the row from which it is assigned in the def whose own names are being gathered, if it comes after that def's row.
+pub fn stamp(work: &[u32], name: usize) -> usize
     requires { ⌜ name < 4294967296 ⌝ }
     ensures { λ r. ⌜ r ≡ stampAt (now (work .entry)) name ⌝ }
 {
-    work_rows::get(work, STAMP_BASE + name)
+    work_rows::get(work, STAMP_BASE + name) % MARKS
 }
 
-fn put_stamp(work: &mut [u32], name: usize, stamp: usize)
+pub fn put_stamp(work: &mut [u32], name: usize, from: usize)
     requires { ⌜ name < 4294967296 ⌝ }
-    ensures { λ _. ⌜ now (work .exit) ≡ putStamp (now (work .entry)) name stamp ⌝ }
+    ensures { λ _. ⌜ now (work .exit) ≡ putStamp (now (work .entry)) name from ⌝ }
 {
-    work_rows::put(work, STAMP_BASE + name, stamp)
+    let flag = work_rows::get(work, STAMP_BASE + name) / MARKS;
+    work_rows::put(work, STAMP_BASE + name, from % MARKS + MARKS * flag)
 }
 
-// The row of the def that has the name of its own, and one; 0 where none has.
-pub fn owner(work: &[u32], name: usize) -> usize
-    requires { ⌜ name < 4294967296 ⌝ }
-    ensures { λ r. ⌜ r ≡ ownerAt (now (work .entry)) name ⌝ }
-{
-    stamp(work, name) / MARKS
-}
-
-// The row from which the name is assigned there.
-pub fn assigned_from(work: &[u32], name: usize) -> usize
-    requires { ⌜ name < 4294967296 ⌝ }
-    ensures { λ r. ⌜ r ≡ fromAt (now (work .entry)) name ⌝ }
-{
-    stamp(work, name) % MARKS
-}
-
-// The def at row `def` has the name of its own, assigned from a row on.
-pub fn put_own(work: &mut [u32], name: usize, def: usize, from: usize)
-    requires { ⌜ (name < 4294967296) × (def < 4294967296) ⌝ }
-    ensures { λ _. ⌜ now (work .exit) ≡ putOwn (now (work .entry)) name def from ⌝ }
-{
-    put_stamp(work, name, MARKS * (def + 1) + from % MARKS)
-}
-
-// No mark of a block and no stamp of name i, no fault of row i. The head of a chain of names stays.
-pub fn forget(work: &mut [u32], i: usize)
+// The flag of the `var` at row i: how its name stands to the def around.
+pub fn flag(work: &[u32], i: usize) -> usize
     requires { ⌜ i < 4294967296 ⌝ }
-    ensures { λ _. ⌜ now (work .exit) ≡ forgotten (now (work .entry)) i ⌝ }
+    ensures { λ r. ⌜ r ≡ flagAt (now (work .entry)) i ⌝ }
 {
-    let head = work_rows::get(work, HEAD_BASE + i) % MARKS;
-    work_rows::put(work, HEAD_BASE + i, head);
-    put_stamp(work, i, 0)
+    work_rows::get(work, STAMP_BASE + i) / MARKS
+}
+
+pub fn put_flag(work: &mut [u32], i: usize, flag: usize)
+    requires { ⌜ i < 4294967296 ⌝ }
+    ensures { λ _. ⌜ now (work .exit) ≡ putFlag (now (work .entry)) i flag ⌝ }
+{
+    let stamp = work_rows::get(work, STAMP_BASE + i) % MARKS;
+    work_rows::put(work, STAMP_BASE + i, stamp + MARKS * (flag % FLAGS))
+}
+
+// Of the first rows no mark of a block and no fault is left. The heads of the chains of names stay.
+pub fn forget_marks(work: &mut [u32], rows: usize)
+    requires { ⌜ (rows ≤ 4096) × (16384 ≤ length (now work)) ⌝ }
+    ensures { λ _. ⌜ now (work .exit) ≡ unmarked rows (now (work .entry)) ⌝ }
+{
+    let mut i = 0;
+    while i < rows {
+        work[HEAD_BASE + i] = work[HEAD_BASE + i] % 8192;
+        i += 1;
+    }
+}
+
+// And no stamp.
+pub fn forget_stamps(work: &mut [u32], rows: usize)
+    requires { ⌜ (rows ≤ 4096) × (16384 ≤ length (now work)) ⌝ }
+    ensures { λ _. ⌜ now (work .exit) ≡ unstamped rows (now (work .entry)) ⌝ }
+{
+    let mut i = 0;
+    while i < rows {
+        work[STAMP_BASE + i] = 0;
+        i += 1;
+    }
 }

@@ -1,13 +1,13 @@
 -- Loops over rows: the loop ends at a row past its last, and goes on at the next row before that. Each row found lies after the one
 -- before it, so any count of steps that is not below the number of rows left does.
-use Prim.Native.Nat.{ℕ, zero, suc, _-_, _≤_, _<_}
+use Prim.Native.Nat.{ℕ, zero, suc, _+_, _-_, _≤_, _<_}
 use native.Mathlib.Omega.{arith}
 use mathlib.Core.Path.{_≡_, refl, sym, ap, _∙_}
 use mathlib.Core.Bool.{cond}
 use mathlib.Core.List.{List}
 use lib.Dec.{ltb}
 use borrow.Author.Tests.{lt-ltb, le-ltb}
-use Rattle.work_rows.specs.LoopsModel.{each, rowsTo}
+use Rattle.work_rows.specs.LoopsModel.{each, rowsTo, nextRow}
 
 module _ (next : List ℕ → ℕ → ℕ) (f : ℕ → List ℕ → List ℕ) where
   pub rows-end : (at stop : ℕ) (w : List ℕ) → stop ≤ at → rowsTo next f at stop w ≡ w
@@ -39,3 +39,6 @@ module _ (next : List ℕ → ℕ → ℕ) (f : ℕ → List ℕ → List ℕ) w
     pub rows-turn : (at stop n : ℕ) (w z : List ℕ) → at < stop → n ≡ next w at → z ≡ f at w → rowsTo next f n stop z ≡ rowsTo next f at stop w
     rows-turn at stop n w z l p q =
         ap (λ j. rowsTo next f j stop z) p ∙ (ap (rowsTo next f (next w at) stop) q ∙ sym (rows-more at stop w l))
+
+pub row-on : (w : List ℕ) (i : ℕ) → i < nextRow w i
+row-on w i = omega arith

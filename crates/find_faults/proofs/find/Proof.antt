@@ -1,12 +1,15 @@
 -- After the call of `read_tree` the numbers of the work buffer have 32 bits (`slice-known2`); each way of the match is a case of the reader's answer.
+-- A tree's faults are listed, or no slot has one.
 use Prim.Native.Nat.{_≤_}
 use native.Mathlib.Omega.{arith}
+use mathlib.Core.Path.{sym, _∙_}
 use lib.ListN.{length}
 use borrow.Author.Needs.{needs}
+use borrow.Author.Tests.{not-true}
 use Rattle.spec_text.specs.Reading.{reading}
 use Rattle.read_tree.specs.Laid.{Answers}
 use Rattle.read_tree.specs.declared.Read.the-variants as R
-use Rattle.find_faults.proofs.Found.{tree-counts, finds-faults, finds-refusal}
+use Rattle.find_faults.proofs.Found.{tree-counts, tree-room, finds-faults, finds-none, finds-refusal}
 use Rattle.find_faults.proofs.find.Statement.{statement}
 use Rattle.find_faults.proofs.find.Tie as tie
 
@@ -25,32 +28,50 @@ counts : (c : tie.After-globals) → (c .globals .given .0 .0 ≤ 4_096) × (c .
 counts c = let s = c .before .before .before .before .before .before .before .before .args in tree-counts (s .text .now) (length (s .work .now)) (answers c)
 
 walk-requires : tie.Need-walk-requires
-walk-requires c κs = counts (c .before .before)
+walk-requires c κs =
+    let g = c .before .before in
+    let s = g .before .before .before .before .before .before .before .before .args in
+    (counts g .0, counts g .1, tree-room (s .text .now) (length (s .work .now)) (answers g))
 
-list-faults-requires : tie.Need-list-faults-requires
-list-faults-requires c κs = counts (c .before .before .before .before .before .before) .1
-
-enum-known-number : tie.Need-enum-known-number
-enum-known-number c = search needs
+any-fault-requires : tie.Need-any-fault-requires
+any-fault-requires c κs = counts (c .before .before .before .before .before .before) .1
 
 same-length : tie.Need-same-length
 same-length c = search needs
 
 returns : tie.Need-returns
 returns c =
-    let list = c .before .before in
-    let walk = list .before .before .before .before in
+    let any = c .before in
+    let walk = any .before .before .before .before in
     let g = walk .before .before .before in
     let k = g .before .before in
     let s = k .before .before .before .before .before .before .args in
-    finds-faults (s .text .now) (length (s .work .now)) (answers g) (λ i. omega (arith, k .slice-known2 .given i)) (walk .walk .ensures) (list .list-faults .ensures .0)
-    (list .list-faults .ensures .1)
+    finds-none (s .text .now) (length (s .work .now)) (answers g) (λ i. omega (arith, k .slice-known2 .given i)) (walk .walk .ensures) (sym (any .any-fault .ensures) ∙ not-true _ (c .if1 .taken))
+
+list-faults-requires : tie.Need-list-faults-requires
+list-faults-requires c κs = counts (c .before .before .before .before .before .before .before .before .before) .1
+
+enum-known-number : tie.Need-enum-known-number
+enum-known-number c = search needs
 
 same-length-2 : tie.Need-same-length-2
 same-length-2 c = search needs
 
 returns-2 : tie.Need-returns-2
 returns-2 c =
+    let list = c .before .before in
+    let walk = list .before .before .before .before .before .before .before in
+    let g = walk .before .before .before in
+    let k = g .before .before in
+    let s = k .before .before .before .before .before .before .args in
+    finds-faults (s .text .now) (length (s .work .now)) (answers g) (λ i. omega (arith, k .slice-known2 .given i)) (walk .walk .ensures) (list .list-faults .ensures .0)
+    (list .list-faults .ensures .1)
+
+same-length-3 : tie.Need-same-length-3
+same-length-3 c = search needs
+
+returns-3 : tie.Need-returns-3
+returns-3 c =
     let r = c .before .before .before .before .before in
     finds-refusal _ _ (rw (c .before .number .given .1) at (r .read-tree .ensures))
 
@@ -61,9 +82,12 @@ find-spec =
     read-tree-requires
     enum-known-globals
     walk-requires
-    list-faults-requires
-    enum-known-number
+    any-fault-requires
     same-length
     returns
+    list-faults-requires
+    enum-known-number
     same-length-2
-    returns-2)
+    returns-2
+    same-length-3
+    returns-3)

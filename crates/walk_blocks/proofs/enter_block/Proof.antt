@@ -1,4 +1,4 @@
--- The parameters are bound, and the own names noted where there are any.
+-- The parameters are bound, and the block is flagged where there are own names.
 use mathlib.Core.Path.{sym, _∙_}
 use borrow.Author.Needs.{needs}
 use Rattle.walk_blocks.proofs.Ways.{open-owned, open-plain}
@@ -11,11 +11,11 @@ enter-requires c κs = search needs
 owns-requires : tie.Need-owns-requires
 owns-requires c κs = search needs
 
-add-collect-locals : tie.Need-add-collect-locals
-add-collect-locals c = search needs
+add-flag-block : tie.Need-add-flag-block
+add-flag-block c = search needs
 
-collect-locals-requires : tie.Need-collect-locals-requires
-collect-locals-requires c κs = search needs
+flag-block-requires : tie.Need-flag-block-requires
+flag-block-requires c κs = search needs
 
 same-length : tie.Need-same-length
 same-length c = search needs
@@ -27,7 +27,7 @@ returns c =
     let o = i .before in
     let e = o .before .before .before in
     let a = e .before .before .before .before .args in
-    open-owned (a .text .now) (a .s) (a .work .now) (a .i) (a .stop) _ (e .enter .ensures) (sym (o .owns .ensures) ∙ i .if1 .taken) _ (n .collect-locals .ensures)
+    open-owned (a .text .now) (a .s) (a .work .now) (a .i) (a .stop) _ (e .enter .ensures) (sym (o .owns .ensures) ∙ i .if1 .taken) _ (n .flag-block .ensures)
 
 same-length-2 : tie.Need-same-length-2
 same-length-2 c = search needs
@@ -45,8 +45,8 @@ enter-block-spec =
     (tie.spec
     enter-requires
     owns-requires
-    add-collect-locals
-    collect-locals-requires
+    add-flag-block
+    flag-block-requires
     same-length
     returns
     same-length-2

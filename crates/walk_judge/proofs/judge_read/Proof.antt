@@ -1,11 +1,8 @@
--- The ways of a read: a lambda's parameter, an own name, a name that is in view, and one that is not.
+-- The ways of a read: a lambda's parameter, an own name that is assigned or not, a name that is in view, and one that is not.
 use native.Mathlib.Omega.{arith}
-use mathlib.Core.Path.{sym, ap, _∙_}
-use mathlib.Core.Bool.{true, false}
-use mathlib.Core.Logic.{⊎-elim}
-use lib.ListN.{length}
+use mathlib.Core.Path.{sym, _∙_}
+use Rattle.walk_judge.proofs.Ways.{read-param, read-assigned, read-unbound, read-in-view, read-undefined}
 use borrow.Author.Needs.{needs}
-use Rattle.walk_judge.proofs.Ways.{own-by, own-not, read-param, read-unbound, read-own, read-in-view, read-undefined}
 use Rattle.walk_judge.proofs.judge_read.Statement.{statement}
 use Rattle.walk_judge.proofs.judge_read.Tie as tie
 
@@ -20,14 +17,17 @@ returns c =
     let a = c .before .before .before .before .args in
     read-param (a .s) (a .called) (a .name) (a .i) (a .work .now) (omega arith)
 
-owner-requires : tie.Need-owner-requires
-owner-requires c κs = search needs
+flag-in-requires : tie.Need-flag-in-requires
+flag-in-requires c κs = search needs
 
-add-if3 : tie.Need-add-if3
-add-if3 c = search needs
+same-length-2 : tie.Need-same-length-2
+same-length-2 c = search needs
 
-assigned-from-requires : tie.Need-assigned-from-requires
-assigned-from-requires c κs = search needs
+returns-2 : tie.Need-returns-2
+returns-2 c =
+    let fi = c .before in
+    let a = fi .before .before .before .before .before .before .args in
+    read-assigned (a .s) (a .called) (a .name) (a .i) (a .work .now) (omega arith) (fi .flag-in .result) (fi .flag-in .ensures) (c .if2 .taken)
 
 unbound-kind-requires : tie.Need-unbound-kind-requires
 unbound-kind-requires c κs = search needs
@@ -35,38 +35,33 @@ unbound-kind-requires c κs = search needs
 fault-requires : tie.Need-fault-requires
 fault-requires c κs = search needs
 
-same-length-2 : tie.Need-same-length-2
-same-length-2 c =
-    ⊎-elim (λ v. ap length (v .6) ∙ v .3 .kept .0) (λ v. ap length (v .1)) (c .if4 .came)
-
-returns-2 : tie.Need-returns-2
-returns-2 c =
-    let i = c .before .before .before in
-    let i₂ = i .before .before in
-    let s = i₂ .before .before in
-    let a = s .before .before .before .before .before .before .args in
-    let own = own-by (a .s) (a .name) (a .work .now) (i₂ .if2 .taken) (s .owner .result) (s .owner .ensures) true (i .if3 .taken) in
-    ⊎-elim
-    (λ v. v .6 ∙ read-unbound (a .s) (a .called) (a .name) (a .i) (a .work .now) (omega arith) own (omega arith) _ _ (v .2 .ensures) (v .3 .ensures))
-    (λ v. v .1 ∙ read-own (a .s) (a .called) (a .name) (a .i) (a .work .now) (omega arith) own (omega arith))
-    (c .if4 .came)
-
-is-defined-requires : tie.Need-is-defined-requires
-is-defined-requires c κs = search needs
-
 same-length-3 : tie.Need-same-length-3
 same-length-3 c = search needs
 
 returns-3 : tie.Need-returns-3
 returns-3 c =
-    let i = c .before in
-    let i₂ = i .before .before in
-    let s = i₂ .before .before in
-    let a = s .before .before .before .before .before .before .args in
-    read-in-view (a .s) (a .called) (a .name) (a .i) (a .work .now) (omega arith)
-    (⊎-elim (λ v. own-by (a .s) (a .name) (a .work .now) (v .0 .taken) (s .owner .result) (s .owner .ensures) false (v .2 .left))
-    (λ v. own-not (a .s) (a .name) (a .work .now) (v .left)) (i₂ .if2 .came))
-    (sym (i .is-defined .ensures) ∙ c .if5 .taken)
+    let f = c .before .before in
+    let uk = f .before in
+    let i = uk .before .before in
+    let i₂ = i .before in
+    let fi = i₂ .before in
+    let a = fi .before .before .before .before .before .before .args in
+    read-unbound (a .s) (a .called) (a .name) (a .i) (a .work .now) (omega arith) (fi .flag-in .result) (fi .flag-in .ensures) (i₂ .if2 .left) (i .if3 .taken) _ _ (uk .unbound-kind .ensures) (f .fault .ensures)
+
+is-defined-requires : tie.Need-is-defined-requires
+is-defined-requires c κs = search needs
+
+same-length-4 : tie.Need-same-length-4
+same-length-4 c = search needs
+
+returns-4 : tie.Need-returns-4
+returns-4 c =
+    let id = c .before in
+    let i = id .before .before in
+    let i₂ = i .before in
+    let fi = i₂ .before in
+    let a = fi .before .before .before .before .before .before .args in
+    read-in-view (a .s) (a .called) (a .name) (a .i) (a .work .now) (omega arith) (fi .flag-in .result) (fi .flag-in .ensures) (i₂ .if2 .left) (i .if3 .left) (sym (id .is-defined .ensures) ∙ c .if4 .taken)
 
 undefined-kind-requires : tie.Need-undefined-kind-requires
 undefined-kind-requires c κs = search needs
@@ -74,22 +69,20 @@ undefined-kind-requires c κs = search needs
 fault-requires-2 : tie.Need-fault-requires-2
 fault-requires-2 c κs = search needs
 
-same-length-4 : tie.Need-same-length-4
-same-length-4 c = search needs
+same-length-5 : tie.Need-same-length-5
+same-length-5 c = search needs
 
-returns-4 : tie.Need-returns-4
-returns-4 c =
+returns-5 : tie.Need-returns-5
+returns-5 c =
     let f = c .before .before in
-    let u = f .before in
-    let i = u .before .before in
-    let i₂ = i .before in
-    let i₃ = i₂ .before .before in
-    let s = i₃ .before .before in
-    let a = s .before .before .before .before .before .before .args in
-    read-undefined (a .s) (a .called) (a .name) (a .i) (a .work .now) (omega arith)
-    (⊎-elim (λ v. own-by (a .s) (a .name) (a .work .now) (v .0 .taken) (s .owner .result) (s .owner .ensures) false (v .2 .left))
-    (λ v. own-not (a .s) (a .name) (a .work .now) (v .left)) (i₃ .if2 .came))
-    (sym (i₂ .is-defined .ensures) ∙ i .if5 .left) _ _ (u .undefined-kind .ensures) (f .fault2 .ensures)
+    let uk = f .before in
+    let i = uk .before .before in
+    let id = i .before in
+    let i₂ = id .before .before in
+    let i₃ = i₂ .before in
+    let fi = i₃ .before in
+    let a = fi .before .before .before .before .before .before .args in
+    read-undefined (a .s) (a .called) (a .name) (a .i) (a .work .now) (omega arith) (fi .flag-in .result) (fi .flag-in .ensures) (i₃ .if2 .left) (i₂ .if3 .left) (sym (id .is-defined .ensures) ∙ i .if4 .left) _ _ (uk .undefined-kind .ensures) (f .fault2 .ensures)
 
 pub judge-read-spec : {M : Type 1} → statement M
 judge-read-spec =
@@ -98,17 +91,17 @@ judge-read-spec =
     lambda-end-requires
     same-length
     returns
-    owner-requires
-    add-if3
-    assigned-from-requires
-    unbound-kind-requires
-    fault-requires
+    flag-in-requires
     same-length-2
     returns-2
-    is-defined-requires
+    unbound-kind-requires
+    fault-requires
     same-length-3
     returns-3
+    is-defined-requires
+    same-length-4
+    returns-4
     undefined-kind-requires
     fault-requires-2
-    same-length-4
-    returns-4)
+    same-length-5
+    returns-5)

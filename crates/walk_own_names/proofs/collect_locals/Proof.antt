@@ -4,13 +4,13 @@ use native.Mathlib.Omega.{arith}
 use mathlib.Core.Path.{_≡_, refl, sym, _∙_}
 use lib.ListN.{length}
 use Rattle.work_rows.proofs.Loops.{rows-end}
-use Rattle.walk_own_names.specs.OwnNamesModel.{rowNoted, nextNoted, allNoted}
-use Rattle.walk_own_names.proofs.Ways.{all-more}
+use Rattle.walk_own_names.specs.OwnNamesModel.{noted, rowBinds, nextBinding, allBindings}
+use Rattle.walk_own_names.proofs.Ways.{bindings-more}
 use Rattle.walk_own_names.proofs.collect_locals.Statement.{statement}
 use Rattle.walk_own_names.proofs.collect_locals.Tie as tie
 
 abbrev Inv-loop : tie.InvT-loop
-Inv-loop work₀ b first stop at₀ work at = (length work ≡ length work₀) × (allNoted b at stop work ≡ allNoted b first stop work₀)
+Inv-loop work₀ b first stop at₀ work at = (length work ≡ length work₀) × (allBindings (noted b) at stop work ≡ allBindings (noted b) first stop work₀)
 
 abbrev μ-loop : tie.MeasureT-loop
 μ-loop work₀ b first stop at₀ work at = stop - at
@@ -18,8 +18,8 @@ abbrev μ-loop : tie.MeasureT-loop
 loop-holds : tie.Need-loop-holds Inv-loop μ-loop
 loop-holds c = (refl, refl)
 
-next-row-requires : tie.Need-next-row-requires Inv-loop μ-loop
-next-row-requires c κs = omega arith
+next-binding-requires : tie.Need-next-binding-requires Inv-loop μ-loop
+next-binding-requires c κs = omega arith
 
 note-row-requires : tie.Need-note-row-requires Inv-loop μ-loop
 note-row-requires c κs = omega arith
@@ -35,7 +35,7 @@ loop-again c =
     let l = i .before in
     let a = l .before .before .args in (
       n .note-row .kept .0 ∙ l .loop .inv .0,
-      all-more (a .b) (l .loop .at) (a .stop) (x .next-row .result) (l .loop .work) _ (i .loop-test .taken) (x .next-row .ensures .0) (n .note-row .ensures)
+      bindings-more (noted (a .b)) (l .loop .at) (a .stop) (x .next-binding .result) (l .loop .work) _ (i .loop-test .taken) (x .next-binding .ensures .0) (n .note-row .ensures)
           ∙ l .loop .inv .1,
     )
 
@@ -46,7 +46,7 @@ returns : tie.Need-returns Inv-loop μ-loop
 returns c =
     let l = c .before in
     let a = l .before .before .args in
-    sym (rows-end nextNoted (rowNoted (a .b)) (l .loop .at) (a .stop) (l .loop .work) (c .loop-test .left)) ∙ l .loop .inv .1
+    sym (rows-end nextBinding (rowBinds (noted (a .b))) (l .loop .at) (a .stop) (l .loop .work) (c .loop-test .left)) ∙ l .loop .inv .1
 
 pub collect-locals-spec : {M : Type 1} → statement M
 collect-locals-spec =
@@ -55,7 +55,7 @@ collect-locals-spec =
     Inv-loop
     μ-loop
     loop-holds
-    next-row-requires
+    next-binding-requires
     note-row-requires
     loop-less
     loop-again

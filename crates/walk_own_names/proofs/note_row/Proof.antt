@@ -56,7 +56,7 @@ returns c =
     let a = k .before .before .before .args in
     n .note-name .ensures
     ∙ (ap (λ x. noted (a .b) x 8_191 (a .work .now)) (m .number .ensures)
-    ∙ sym (row-def (a .b) (a .i) (a .work .now) (sym (k .kind .ensures) ∙ h .match .keys1)))
+    ∙ sym (row-def (noted (a .b)) (a .i) (a .work .now) (sym (k .kind .ensures) ∙ h .match .keys1)))
 
 same-length-2 : tie.Need-same-length-2
 same-length-2 c = search needs
@@ -70,7 +70,7 @@ returns-2 c =
     let a = k .before .before .before .args in
     n .note-name2 .ensures
     ∙ (ap (λ x. noted (a .b) x 8_191 (a .work .now)) (m .number2 .ensures)
-    ∙ sym (row-class (a .b) (a .i) (a .work .now) (sym (k .kind .ensures) ∙ h .match .keys2)))
+    ∙ sym (row-class (noted (a .b)) (a .i) (a .work .now) (sym (k .kind .ensures) ∙ h .match .keys2)))
 
 same-length-3 : tie.Need-same-length-3
 same-length-3 c = search needs
@@ -86,7 +86,7 @@ returns-3 c =
     n .note-name3 .ensures
     ∙ (ap (λ x. noted (a .b) x (r .after-row .result) (a .work .now)) (m .number3 .ensures)
     ∙ (ap (λ x. noted (a .b) (numberAt (a .work .now) (a .i)) x (a .work .now)) (r .after-row .ensures .0)
-    ∙ sym (row-for (a .b) (a .i) (a .work .now) (sym (k .kind .ensures) ∙ h .match .keys3))))
+    ∙ sym (row-for (noted (a .b)) (a .i) (a .work .now) (sym (k .kind .ensures) ∙ h .match .keys3))))
 
 same-length-4 : tie.Need-same-length-4
 same-length-4 c = search needs
@@ -100,7 +100,7 @@ returns-4 c =
     let a = k .before .before .before .args in
     n .note-name4 .ensures
     ∙ (ap (λ x. noted (a .b) x (a .i + 1) (a .work .now)) (m .number4 .ensures)
-    ∙ sym (row-var (a .b) (a .i) (a .work .now) (sym (k .kind .ensures) ∙ h .match .keys4)))
+    ∙ sym (row-var (noted (a .b)) (a .i) (a .work .now) (sym (k .kind .ensures) ∙ h .match .keys4)))
 
 same-length-5 : tie.Need-same-length-5
 same-length-5 c = search needs
@@ -111,7 +111,7 @@ returns-5 c =
     let a = k .before .before .before .args in
     let r = c .match .rest in
     let q = k .kind .ensures in
-    sym (row-none (a .b) (a .i) (a .work .now) (λ e. r .0 .0 .0 .1 (q ∙ e)) (λ e. r .0 .0 .1 (q ∙ e)) (λ e. r .0 .1 (q ∙ e)) (λ e. r .1 (q ∙ e)))
+    sym (row-none (noted (a .b)) (a .i) (a .work .now) (λ e. r .0 .0 .0 .1 (q ∙ e)) (λ e. r .0 .0 .1 (q ∙ e)) (λ e. r .0 .1 (q ∙ e)) (λ e. r .1 (q ∙ e)))
 
 pub note-row-spec : {M : Type 1} → statement M
 note-row-spec =

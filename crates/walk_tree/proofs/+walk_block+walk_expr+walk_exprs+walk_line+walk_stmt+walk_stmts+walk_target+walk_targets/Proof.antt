@@ -66,14 +66,12 @@ use Rattle.walk_tree.proofs.walk_targets.Reads as walk-targets
 use Rattle.walk_tree.proofs.walk_targets.Kinds as walk-targets-kinds
 use Rattle.walk_tree.proofs.+walk_block+walk_expr+walk_exprs+walk_line+walk_stmt+walk_stmts+walk_target+walk_targets.Lts-walk_targets as walk-targets-lts
 use Rattle.walk_blocks.proofs.enter_block.Reads as enter-block-reads
-use Rattle.walk_blocks.proofs.reenter_block.Reads as reenter-block-reads
 use Rattle.walk_judge.proofs.judge_read.Reads as judge-read-reads
 use Rattle.work_rows.proofs.after_row.Reads as after-row-reads
 use Rattle.work_marks.proofs.put_slot.Reads as put-slot-reads
 use Rattle.work_rows.proofs.kind.Reads as kind-reads
 use Rattle.work_rows.proofs.number.Reads as number-reads
 use Rattle.walk_scopes.proofs.ScopeStack.define.Reads as define-reads
-use Rattle.walk_scopes.proofs.ScopeStack.pop.Reads as pop-reads
 use Rattle.walk_scopes.proofs.ScopeStack.push.Reads as push-reads
 use Rattle.walk_scopes.proofs.ScopeStack.push_lambda.Reads as push-lambda-reads
 use Rattle.walk_tree.proofs.judge_method.Reads as judge-method-reads
@@ -469,10 +467,6 @@ walk-stmt-calls t = (
   push-reads.Learnt,
   walk-block-below t,
   walk-block.Post,
-  pop-reads.Asked,
-  pop-reads.Learnt,
-  reenter-block-reads.Asked,
-  reenter-block-reads.Learnt,
   walk-expr-below t,
   walk-expr.Post,
   walk-targets-below t,
@@ -517,14 +511,6 @@ walk-stmt-walk-block-requires t c κs =
     let i₂ = i .before in
     let o = i₂ .before .before .before in
     omega (arith, o .pre .0, i₂ .if1 .left, i .if2 .left, a₂ .after-row .ensures .1, scoped (p .push .ensures))
-
-walk-stmt-pop-requires : (t : ℕ) → walk-stmt-lts.Need-pop-requires (walk-stmt-calls t) (walk-stmt-at t) walk-stmt.Post
-walk-stmt-pop-requires t c κs = tt
-
-walk-stmt-reopen-requires : (t : ℕ) → walk-stmt-lts.Need-reenter-block-requires (walk-stmt-calls t) (walk-stmt-at t) walk-stmt.Post
-walk-stmt-reopen-requires t c κs =
-    let o = c .before .before .before .before .before .before .before .before .before .before .before .before .before .before .before .before .before .before .before .before .before .before in
-    omega (arith, o .pre .1, scoped (c .pop .ensures))
 
 walk-stmt-add-after-row : (t : ℕ) → walk-stmt-lts.Need-add-after-row (walk-stmt-calls t) (walk-stmt-at t) walk-stmt.Post
 walk-stmt-add-after-row t c = omega arith
@@ -612,26 +598,23 @@ walk-stmt-walk-stmts-requires-3 t c κs = omega arith
 
 walk-stmt-same-length : (t : ℕ) → walk-stmt-lts.Need-same-length (walk-stmt-calls t) (walk-stmt-at t) walk-stmt.Post
 walk-stmt-same-length t c =
-    let r = c .before .before in
-    let w = r .before .before .before .before .before in
+    let w = c .before .before in
     let d = w .before .before .before .before .before in
-    r .reenter-block .kept .1 .0 ∙ (w .walk-block .kept .1 .0 ∙ d .define .kept .1 .0)
+    w .walk-block .kept .1 .0 ∙ d .define .kept .1 .0
 
 walk-stmt-returns-3 : (t : ℕ) → walk-stmt-lts.Need-returns-3 (walk-stmt-calls t) (walk-stmt-at t) walk-stmt.Post
 walk-stmt-returns-3 t c =
-    let r = c .before .before in
-    let p = r .before in
-    let w = p .before .before .before .before in
-    let p₂ = w .before .before in
-    let d = p₂ .before .before .before in
+    let w = c .before .before in
+    let p = w .before .before in
+    let d = p .before .before .before in
     let n = d .before in
     let m = n .before .before .before in
     let k = m .before in
     let a₂ = k .before .before in
     let i = a₂ .before .before in
     let i₂ = i .before in
-    stmt-def _ _ _ _ _ (i₂ .if1 .left) (i .if2 .left) _ (a₂ .after-row .ensures .0) _ _ _ _ _ _ (sym (k .kind .ensures) ∙ m .match .keys1)
-    (n .number .ensures) (d .define .ensures) (p₂ .push .ensures) (w .walk-block .ensures) (p .pop .ensures) (r .reenter-block .ensures)
+    stmt-def _ _ _ _ _ (i₂ .if1 .left) (i .if2 .left) _ (a₂ .after-row .ensures .0) _ _ _ _ (sym (k .kind .ensures) ∙ m .match .keys1)
+    (n .number .ensures) (d .define .ensures) (p .push .ensures) (w .walk-block .ensures)
 
 walk-stmt-same-length-2 : (t : ℕ) → walk-stmt-lts.Need-same-length-2 (walk-stmt-calls t) (walk-stmt-at t) walk-stmt.Post
 walk-stmt-same-length-2 t c =
@@ -1101,8 +1084,6 @@ pub +walk-block+walk-expr+walk-exprs+walk-line+walk-stmt+walk-stmts+walk-target+
     (walk-stmt-push-requires t)
     (walk-stmt-sub-walk-block t)
     (walk-stmt-walk-block-requires t)
-    (walk-stmt-pop-requires t)
-    (walk-stmt-reopen-requires t)
     (walk-stmt-add-after-row t)
     (walk-stmt-after-row-requires-2 t)
     (walk-stmt-sub-walk-expr t)

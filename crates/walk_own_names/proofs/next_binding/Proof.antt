@@ -5,8 +5,8 @@ use mathlib.Core.Logic.{inl, inr, ⊎-elim}
 use borrow.Author.Needs.{needs}
 use borrow.Author.Tests.{leb-true, leb-false}
 use Rattle.walk_own_names.proofs.Ways.{next-past, next-child, next-after}
-use Rattle.walk_own_names.proofs.next_row.Statement.{statement}
-use Rattle.walk_own_names.proofs.next_row.Tie as tie
+use Rattle.walk_own_names.proofs.next_binding.Statement.{statement}
+use Rattle.walk_own_names.proofs.next_binding.Tie as tie
 
 kind-requires : tie.Need-kind-requires
 kind-requires c κs = search needs
@@ -54,8 +54,8 @@ returns-3 c =
       omega arith,
     )
 
-pub next-row-spec : {M : Type 1} → statement M
-next-row-spec =
+pub next-binding-spec : {M : Type 1} → statement M
+next-binding-spec =
     tie.close
     (tie.spec
     kind-requires
