@@ -2,9 +2,10 @@
 //! against a plain parser and the pass, and against the pass alone on a tree that is ready.
 
 use bench::script::script;
+use bench::sides::passes;
 use bench::stack::stacks_of_calls;
 use bench::timing::best;
-use original::text_tree::{self, Tree};
+use original::text_tree;
 use serduzhap::{check, Check, STACK, WORK};
 use std::hint::black_box;
 
@@ -13,7 +14,6 @@ fn main() {
     compare("a script of 1,000 lines", &script(1030), 1000);
     compare("a script of 3,000 lines", &script(3030), 300);
     compare("the longest script that fits", &script(3460), 300);
-    compare("1,023 functions in a function", &functions_in_a_function(1023), 10);
     compare("64 deep, functions in functions", &nested_functions(63), 10000);
 
     print_stacks("the script of 3,000 lines", &script(3000));
@@ -48,19 +48,6 @@ fn compare(title: &str, text: &[u8], calls: u32) {
         both / ours,
         alone / ours
     );
-}
-
-/// Whether the original has no error.
-fn passes(tree: &Tree) -> bool {
-    original::first_error(&tree.globals, &tree.body).is_none()
-}
-
-/// Functions one after the other in a function, each followed by a read: its own names are gathered again
-/// after each.
-fn functions_in_a_function(count: usize) -> Vec<u8> {
-    let one = |i| format!("def\t0\t1\tf{i}\t1\npass\t0\t1\nexpr\t0\t1\nvar\t0\t1\tx\n");
-    let inner: String = (0..count).map(one).collect();
-    format!("tree\t0\t1\ndef\t0\t1\tf\t{}\tx\n{inner}", 2 * count).into_bytes()
 }
 
 /// A function in a function in a function, and so on.
