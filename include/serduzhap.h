@@ -34,7 +34,7 @@ extern "C" {
  * @{ */
 #define SERDUZHAP_VERSION_MAJOR 1
 #define SERDUZHAP_VERSION_MINOR 0
-#define SERDUZHAP_VERSION_PATCH 0
+#define SERDUZHAP_VERSION_PATCH 1
 /** @} */
 
 /** @name The first number of an answer
