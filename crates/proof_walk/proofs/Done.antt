@@ -12,11 +12,12 @@ use Rattle.spec_faults.specs.Faults.{Fault, capture}
 use Rattle.spec_faults.proofs.ListingWalk.{Env}
 use Rattle.spec_faults.proofs.Deduped.{dedupe, seenAfter, seen-append, dedupe-append}
 use Rattle.work_rows.specs.Rows.{Row}
-use Rattle.work_marks.specs.MarksModel.{stampBase, lambdaEnd, blockEnd, slotAt, flagAt, putSlot, raisedBlock}
-use Rattle.work_marks.proofs.Writes.{Words, Kept, kept-refl, kept-trans, slot-same, slot-other, slot-lambda, slot-block, slot-fourth, kept-slot, words-slot, raised-block-same, raised-block-other, raised-block-lambda, raised-block-slot, raised-block-fourth, kept-raised-block, words-raised-block}
-use Rattle.walk_scopes.specs.ScopesModel.{defined}
+use Rattle.work_marks.specs.MarksModel.{stampBase, lambdaEnd, blockEnd, slotAt, flagAt, putSlot, putLink, raisedBlock}
+use Rattle.work_marks.proofs.Writes.{Words, Kept, kept-refl, kept-trans, slot-same, slot-other, slot-lambda, slot-block, slot-fourth, kept-slot, words-slot, raised-block-same, raised-block-other, raised-block-lambda, raised-block-slot, raised-block-fourth, kept-raised-block, words-raised-block, fourth-lambda, fourth-block, fourth-slot, kept-fourth, words-fourth, flag-other, flag-stamp}
 use Rattle.walk_scopes.specs.declared.ScopeStack.{ScopeStack}
-use Rattle.walk_scopes.proofs.Define.{defined-block}
+use Rattle.walk_scopes.specs.ScopesModel.{Scope, topOf, defined}
+use Rattle.walk_scopes.proofs.Defined.{defined-block}
+use Rattle.walk_tree.specs.WalkModel.{Walk, walk}
 use Rattle.proof_walk.specs.Notes.{OwnNames}
 use Rattle.proof_walk.specs.Slots.{keyOf, slotsFrom, keys}
 use Rattle.proof_walk.proofs.State.{Open, Raised, At}
@@ -62,12 +63,12 @@ key-some n zero p = absurd (omega arith)
 key-some n (suc k) p = refl
 
 -- ---- what rows from r on do to the buffer, in the block of s
-pub record Change (num : Bytes → ℕ) (s : ScopeStack) (r : ℕ) (w v : List ℕ) : Type 0 where
+pub record Change (num : Bytes → ℕ) (s : Scope) (r : ℕ) (w v : List ℕ) : Type 0 where
   pub kept : Kept w v
   pub before : (i : ℕ) → i < r → slotAt v i ≡ slotAt w i
   pub blocks : (x : Bytes) → num x < 4_096 → Raised (s .end) (blockEnd w (num x)) (blockEnd v (num x))
 
-change-then : {num : Bytes → ℕ} {s : ScopeStack} {r m : ℕ} {w v z : List ℕ} → r ≤ m → Change num s r w v → Change num s m v z → Change num s r w z
+change-then : {num : Bytes → ℕ} {s : Scope} {r m : ℕ} {w v z : List ℕ} → r ≤ m → Change num s r w v → Change num s m v z → Change num s r w z
 change-then {num} {s} {r} {m} {w} {v} {z} l p q = record {
   kept = kept-trans (p .kept) (q .kept);
   before = λ i h. q .before i (omega arith) ∙ p .before i h;
@@ -75,12 +76,13 @@ change-then {num} {s} {r} {m} {w} {v} {z} l p q = record {
 }
 
 -- ---- and what holds after them, where the names vs are in view
-pub record Done (text : Bytes) (rows : List Row) (num : Bytes → ℕ) (own : OwnNames) (s : ScopeStack) (v : Env) (vs : List Part) (seen fs : List Fault) (w w′ : List ℕ) (r e : ℕ) : Type 0 where
+pub record Done (text : Bytes) (rows : List Row) (num : Bytes → ℕ) (own : OwnNames) (s : Scope) (v : Env) (vs : List Part) (seen fs : List Fault) (w w′ : List ℕ) (r e : ℕ) : Type 0 where
   pub far : r ≤ e
   pub after : At text rows num own s [] v vs (seenAfter seen fs) w′ e
   pub slots : slotsFrom w′ r (e - r) ≡ keys (dedupe seen fs)
   pub change : Change num s r w w′
   pub beyond : (i : ℕ) → e ≤ i → i < 4_096 → flagAt w′ i ≡ flagAt w i
+  pub early : (i : ℕ) → i < r → flagAt w′ i ≡ flagAt w i
 
 -- a part of the text from row r on, whose line is n: the walk has the depth k for it, and it ends at the row stop or before
 pub record Spans (size k r n stop : ℕ) : Type 0 where
@@ -89,13 +91,19 @@ pub record Spans (size k r n stop : ℕ) : Type 0 where
   pub inside : r + size ≤ stop
 
 -- a loop comes from row r to row e
-pub record Looped (text : Bytes) (rows : List Row) (num : Bytes → ℕ) (own : OwnNames) (s : ScopeStack) (v : Env) (loop : ℕ → List ℕ → List ℕ) (vs : List Part) (seen fs : List Fault) (w : List ℕ)
+pub record Looped {A : Type 0} (text : Bytes) (rows : List Row) (num : Bytes → ℕ) (own : OwnNames) (s : Scope) (v : Env) (loop : ℕ → List ℕ → A) (vs : List Part) (seen fs : List Fault) (w : List ℕ)
     (r e : ℕ) : Type 0 where
   pub there : List ℕ
   pub goes : loop r w ≡ loop e there
   pub done : Done text rows num own s v vs seen fs w there r e
 
-module _ {text : Bytes} {rows : List Row} {num : Bytes → ℕ} {own : OwnNames} {s : ScopeStack} {v : Env} where
+-- a walk of statements from row r to row e, as which x is, hands back the stack as it was
+pub record Comes (text : Bytes) (rows : List Row) (num : Bytes → ℕ) (own : OwnNames) (t : ScopeStack) (v : Env) (x : Walk) (vs : List Part) (seen fs : List Fault) (w : List ℕ) (r e : ℕ) : Type 0 where
+  pub there : List ℕ
+  pub goes : x ≡ walk t there
+  pub done : Done text rows num own (topOf t) v vs seen fs w there r e
+
+module _ {text : Bytes} {rows : List Row} {num : Bytes → ℕ} {own : OwnNames} {s : Scope} {v : Env} where
   pub done-then : {us vs : List Part} {seen fs gs : List Fault} {w₀ w₁ w₂ : List ℕ} {r m e : ℕ} → Done text rows num own s v us seen fs w₀ w₁ r m
       → Done text rows num own s v vs (seenAfter seen fs) gs w₁ w₂ m e → Done text rows num own s v vs seen (fs ++ gs) w₀ w₂ r e
   done-then {us} {vs} {seen} {fs} {gs} {w₀} {w₁} {w₂} {r} {m} {e} p q = record {
@@ -104,7 +112,38 @@ module _ {text : Bytes} {rows : List Row} {num : Bytes → ℕ} {own : OwnNames}
     slots = slots-then w₁ w₂ seen fs gs (p .far) (q .far) (q .change .before) (p .slots) (q .slots);
     change = change-then (p .far) (p .change) (q .change);
     beyond = λ i l k. q .beyond i l k ∙ p .beyond i (omega (arith, q .far)) k;
+    early = λ i l. q .early i (omega (arith, p .far)) ∙ p .early i l;
   }
+
+  -- ---- a link is written at row r
+  pub done-link : {vs : List Part} {seen fs : List Fault} {w y : List ℕ} {r : ℕ} (x : ℕ) → r < length rows → Done text rows num own s v vs seen fs w y r (suc r)
+      → Done text rows num own s v vs seen fs w (putLink y r x) r (suc r)
+  done-link {vs} {seen} {fs} {w} {y} {r} x inside p =
+      let few = p .after .table .few in
+      record {
+        far = p .far;
+        after = record {
+          table = table-kept (kept-fourth y r _) (p .after .table);
+          words = words-fourth y r _ (p .after .words);
+          home = p .after .home;
+          view = λ a l. open-raised (p .after .view a l) (omega arith) (raised-same (fourth-block y r _ (num a) l));
+          params = λ a l. open-raised (p .after .params a l) (omega arith) (raised-same (fourth-lambda y r _ (num a) l));
+          flags = λ d i l k. flag-other y r x i (λ q. omega arith) ∙ p .after .flags d i l k;
+          locals = p .after .locals;
+          others = p .after .others;
+          low = λ a l. omega (arith, flag-stamp y r x (num a), p .after .low a l);
+          clean = λ i l k. fourth-slot y r _ i (omega arith) ∙ p .after .clean i l k;
+          places = p .after .places;
+        };
+        slots = slots-same y (putLink y r x) r (suc r - r) (λ i l. fourth-slot y r _ i (omega arith)) ∙ p .slots;
+        change = record {
+          kept = kept-trans (p .change .kept) (kept-fourth y r _);
+          before = λ i l. fourth-slot y r _ i (omega arith) ∙ p .change .before i l;
+          blocks = λ a l. raised-then (p .change .blocks a l) (raised-same (fourth-block y r _ (num a) l));
+        };
+        beyond = λ i l k. flag-other y r x i (λ q. omega arith) ∙ p .beyond i l k;
+        early = λ i l. flag-other y r x i (λ q. omega arith) ∙ p .early i l;
+      }
 
   -- ---- rows that keep the fourth numbers, and the captures seen
   module _ {vs : List Part} {seen : List Fault} {w : List ℕ} {r : ℕ} (h : At text rows num own s [] v vs seen w r) where
@@ -132,6 +171,7 @@ module _ {text : Bytes} {rows : List Row} {num : Bytes → ℕ} {own : OwnNames}
         blocks = n .blocks;
       };
       beyond = λ i _ _. ap (λ x. x / 8_192) (n .fourths i);
+      early = λ i _. ap (λ x. x / 8_192) (n .fourths i);
     }
       where
         at : At text rows num own s [] v us seen w′ e
@@ -238,7 +278,7 @@ module _ {text : Bytes} {rows : List Row} {num : Bytes → ℕ} {own : OwnNames}
         blocks y m false q = raised-same (other y m q)
 
   -- ---- loops
-  module _ {loop : ℕ → List ℕ → List ℕ} {vs : List Part} {seen fs : List Fault} {w : List ℕ} {r : ℕ} where
+  module _ {A : Type 0} {loop : ℕ → List ℕ → A} {vs : List Part} {seen fs : List Fault} {w : List ℕ} {r : ℕ} where
     pub looped-one : {e : ℕ} {w′ : List ℕ} → loop r w ≡ loop e w′ → Done text rows num own s v vs seen fs w w′ r e → Looped text rows num own s v loop vs seen fs w r e
     looped-one {e} {w′} q d = record { there = w′; goes = q; done = d }
 
@@ -249,10 +289,16 @@ module _ {text : Bytes} {rows : List Row} {num : Bytes → ℕ} {own : OwnNames}
     pub looped-to : {gs : List Fault} {m e : ℕ} → m ≡ e → fs ≡ gs → Looped text rows num own s v loop vs seen fs w r m → Looped text rows num own s v loop vs seen gs w r e
     looped-to {gs} {m} {e} p q l = subst (Looped text rows num own s v loop vs seen gs w r) p (subst (λ fs. Looped text rows num own s v loop vs seen fs w r m) q l)
 
-    -- the loop ends at row e
-    pub looped-end : {e : ℕ} → ((z : List ℕ) → loop e z ≡ z) → Looped text rows num own s v loop vs seen fs w r e → Done text rows num own s v vs seen fs w (loop r w) r e
-    looped-end {e} q l = subst (λ z. Done text rows num own s v vs seen fs w z r e) (sym (l .goes ∙ q (l .there))) (l .done)
+  -- the loop ends at row e
+  pub looped-end : {loop : ℕ → List ℕ → List ℕ} {vs : List Part} {seen fs : List Fault} {w : List ℕ} {r e : ℕ} → ((z : List ℕ) → loop e z ≡ z) → Looped text rows num own s v loop vs seen fs w r e
+      → Done text rows num own s v vs seen fs w (loop r w) r e
+  looped-end {vs = vs} {seen} {fs} {w} {r} {e} q l = subst (λ z. Done text rows num own s v vs seen fs w z r e) (sym (l .goes ∙ q (l .there))) (l .done)
 
   pub done-to : {vs : List Part} {seen fs gs : List Fault} {w z : List ℕ} {r m e : ℕ} → m ≡ e → fs ≡ gs → Done text rows num own s v vs seen fs w z r m → Done text rows num own s v vs seen gs w z r e
   done-to {vs} {seen} {fs} {gs} {w} {z} {r} {m} {e} p q d =
       subst (Done text rows num own s v vs seen gs w z r) p (subst (λ fs. Done text rows num own s v vs seen fs w z r m) q d)
+
+-- ---- some rows before a walk of statements
+pub comes-then : {text : Bytes} {rows : List Row} {num : Bytes → ℕ} {own : OwnNames} {t : ScopeStack} {v : Env} {x : Walk} {us vs : List Part} {seen fs gs : List Fault} {w w₁ : List ℕ} {r m e : ℕ}
+    → Done text rows num own (topOf t) v us seen fs w w₁ r m → Comes text rows num own t v x vs (seenAfter seen fs) gs w₁ m e → Comes text rows num own t v x vs seen (fs ++ gs) w r e
+comes-then d c = record { there = c .there; goes = c .goes; done = done-then d (c .done) }

@@ -22,12 +22,11 @@ use Rattle.work_rows.specs.Rows.{Row, row, rowsE, rowsEs}
 use Rattle.work_rows.proofs.Lengths.{sized-e}
 use Rattle.work_rows.specs.LoopsModel.{rowsTo}
 use Rattle.work_rows.proofs.Loops.{rows-end, rows-more}
-use Rattle.walk_scopes.specs.ScopesModel.{pushedLambda}
-use Rattle.walk_scopes.specs.declared.ScopeStack.{ScopeStack}
+use Rattle.walk_scopes.specs.ScopesModel.{Scope, stackOf}
 use Rattle.read_row.specs.Worded.{WordedE, WordedEs}
 use Rattle.walk_judge.specs.JudgeModel.{readOf}
 use Rattle.walk_blocks.specs.BlocksModel.{opened}
-use Rattle.walk_tree.specs.WalkModel.{exprAt, walkExpr, walkStmt, walkLine, walkExprs}
+use Rattle.walk_tree.specs.WalkModel.{inLambda, walk, exprAt, walkExpr, walkBody, walkStmts, walkExprs}
 use Rattle.proof_walk.specs.Table.{ParamWord, lambda as lambdaWord, Table, Here}
 use Rattle.proof_walk.specs.Notes.{OwnNames, Told}
 use Rattle.proof_walk.specs.Slots.{slotsFrom}
@@ -41,7 +40,7 @@ use Rattle.proof_walk.proofs.Lambdas.{Bound, bound-opened, around-in, s
 pub use Rattle.proof_walk.proofs.OneRead.{Still, Flat}
 
 -- ---- a part of the rows
-under-part : {s : ScopeStack} {v : Env} {r stop i end : ℕ} {ls : List Placed} → r ≤ i → end ≤ stop → Under s v r stop ls → Under s v i end ls
+under-part : {s : Scope} {v : Env} {r stop i end : ℕ} {ls : List Placed} → r ≤ i → end ≤ stop → Under s v r stop ls → Under s v i end ls
 under-part a b (flat f) = flat f
 under-part a b (under {q} {qs} d) = under {q = q} {qs = qs} (record {
   some = d .some;
@@ -52,7 +51,7 @@ under-part a b (under {q} {qs} d) = under {q = q} {qs = qs} (record {
   early = let e = d .early in omega arith;
 })
 
-around-part : {rows : List Row} {own : OwnNames} {s : ScopeStack} {ls : List Placed} {v : Env} {st : State} {r stop i end : ℕ} → r ≤ i → end ≤ stop
+around-part : {rows : List Row} {own : OwnNames} {s : Scope} {ls : List Placed} {v : Env} {st : State} {r stop i end : ℕ} → r ≤ i → end ≤ stop
     → Around rows own s ls v st r stop → Around rows own s ls v st i end
 around-part a b c = record {
   lambdas = under-part a b (c .lambdas);
@@ -62,7 +61,7 @@ around-part a b c = record {
   told = λ d j k l. c .told d j (omega arith) (omega arith);
 }
 
-inner-outer : {s : ScopeStack} {v : Env} {r stop : ℕ} {ls : List Placed} → Under s v r stop ls → s .inner ≤ s .outer
+inner-outer : {s : Scope} {v : Env} {r stop : ℕ} {ls : List Placed} → Under s v r stop ls → s .inner ≤ s .outer
 inner-outer (flat f) = omega (arith, f .inner)
 inner-outer (under d) = d .wide
 
@@ -71,10 +70,10 @@ after-on : (w : List ℕ) (i : ℕ) → i < afterRow w i
 after-on w i = omega arith
 
 -- ---- the row of an expression, by its kind
-module _ (k : ℕ) (text : Bytes) (s : ScopeStack) (called : Bool) (i : ℕ) (w : List ℕ) (few : i < 4_096) where
-  walk-on : walkExpr (suc k) text called s i w ≡ exprAt (walkExpr k text) (walkLine k text) text s called i w
+module _ (k : ℕ) (text : Bytes) (s : Scope) (called : Bool) (i : ℕ) (w : List ℕ) (few : i < 4_096) where
+  walk-on : walkExpr (suc k) text called s i w ≡ exprAt (walkExpr k text) (walkBody k text) text s called i w
   unfolding walkExpr
-  walk-on = ap (λ t. cond t w (exprAt (walkExpr k text) (walkLine k text) text s called i w)) (lt-leb rowsMost i few)
+  walk-on = ap (λ t. cond t w (exprAt (walkExpr k text) (walkBody k text) text s called i w)) (lt-leb rowsMost i few)
 
   at-var : kindAt w i ≡ 17 → walkExpr (suc k) text called s i w ≡ readOf s called (numberAt w i) i w
   unfolding exprAt
@@ -86,7 +85,7 @@ module _ (k : ℕ) (text : Bytes) (s : ScopeStack) (called : Bool) (i : ℕ) (w 
   at-call e = walk-on ∙ rw e
 
   at-lambda : kindAt w i ≡ 28 → walkExpr (suc k) text called s i w
-      ≡ walkLine k text (pushedLambda s (afterRow w i)) (i + 1) (opened text (pushedLambda s (afterRow w i)) i (afterRow w i) w)
+      ≡ walkBody k text (inLambda s (afterRow w i)) (i + 1) (opened text (inLambda s (afterRow w i)) i (afterRow w i) w)
   unfolding exprAt
   at-lambda e = walk-on ∙ rw e
 
@@ -123,14 +122,14 @@ word-E t (call l f es) h ok = ap (λ n. ltb n 16) (row-kind t h ∙ ok .0)
 word-E t (lambda l e) h ok = ap (λ n. ltb n 16) (row-kind t h ∙ ok .0)
 
 -- ---- expressions, under lambdas too
-step-as : {num : Bytes → ℕ} {s : ScopeStack} {ls : List Placed} {v : Env} {st : State} {seen : List Fault} {r n : ℕ} {w y z : List ℕ} {fs gs : List Fault} → z ≡ y → gs ≡ fs
+step-as : {num : Bytes → ℕ} {s : Scope} {ls : List Placed} {v : Env} {st : State} {seen : List Fault} {r n : ℕ} {w y z : List ℕ} {fs gs : List Fault} → z ≡ y → gs ≡ fs
     → Step num s ls v st seen r n w y fs → Step num s ls v st seen r n w z gs
 step-as {num} {s} {ls} {v} {st} {seen} {r} {n} {w} {y} {z} {fs} {gs} e d p =
     subst (λ y. Step num s ls v st seen r n w y gs) (sym e) (subst (Step num s ls v st seen r n w y) (sym d) p)
 
 module _ {text : Bytes} {rows : List Row} {num : Bytes → ℕ} {own : OwnNames} where
   -- the rows below a row of one of the other kinds
-  below-step : {s : ScopeStack} {ls : List Placed} {v : Env} {st : State} {seen : List Fault} {w : List ℕ} {l : Line} {part : List Row} (k r : ℕ) (called : Bool) (n : ℕ) → Plain (l .word)
+  below-step : {s : Scope} {ls : List Placed} {v : Env} {st : State} {seen : List Fault} {w : List ℕ} {l : Line} {part : List Row} (k r : ℕ) (called : Bool) (n : ℕ) → Plain (l .word)
       → Here rows r (row l n ∷ part) → Stands text rows num own s ls v st seen w r → {fs : List Fault}
       → Step num s ls v st seen (suc r) n w (walkExprs k text s (suc r) (suc r + n) w) fs
       → Step num s ls v st seen r (suc n) w (walkExpr (suc k) text called s r w) fs
@@ -143,7 +142,7 @@ module _ {text : Bytes} {rows : List Row} {num : Bytes → ℕ} {own : OwnNames}
       refl (step-below (p .at .clean r (omega arith) (head-row h .0)) q)
 
   mutual
-    expr-step : (e : Expr) (k r : ℕ) {called : Bool} {u : Use} {s : ScopeStack} {ls : List Placed} {v : Env} {st : State} {seen : List Fault} {w : List ℕ} → CalledAs called u
+    expr-step : (e : Expr) (k r : ℕ) {called : Bool} {u : Use} {s : Scope} {ls : List Placed} {v : Env} {st : State} {seen : List Fault} {w : List ℕ} → CalledAs called u
         → Here rows r (rowsE e) → WordedE e → lenE e ≤ k → Stands text rows num own s ls v st seen w r → Around rows own s ls v st r (r + lenE e)
         → Step num s ls v st seen r (lenE e) w (walkExpr k text called s r w) (rawE e (suc (suc r)) u ls v st)
     expr-step (var l) zero r a h ok few p c = absurd (omega arith)
@@ -184,20 +183,20 @@ module _ {text : Bytes} {rows : List Row} {num : Bytes → ℕ} {own : OwnNames}
     expr-step (lambda l e) (suc k) r {called} {u} {s} {ls} {v} {st} {seen} {w} a h ok few p c =
         let t = p .at .table in
         let end : ℕ = r + suc (lenE e) in
-        let y : List ℕ = opened text (pushedLambda s end) r end w in
+        let y : List ℕ = opened text (inLambda s end) r end w in
         let b : Bound num end (l .params) w y =
-        bound-opened text (pushedLambda s end) (omega arith) (omega (arith, c .inside, c .ends, t .few)) r end (l .params) w t (ok .1 .0)
+        bound-opened text (inLambda s end) r (omega arith) (omega (arith, c .inside, c .ends, t .few)) end (l .params) w t (ok .1 .0)
         (row-params t h (subst ParamWord (sym (ok .0)) lambdaWord)) in
         let p′ = stands-in (lenE e) l p c b in
         let he : Here rows (suc r) (rowsE e) = here-tail h in
         step-as
         (at-lambda k text s called r w (row-few t h) (row-kind t h ∙ ok .0)
-        ∙ ap₂ (λ i stop. walkLine k text (pushedLambda s stop) i (opened text (pushedLambda s stop) r stop w)) (add-one r) (row-after t h)
-        ∙ ap (λ m. cond m (walkStmt k text (pushedLambda s end) (suc r) y) (walkExpr k text false (pushedLambda s end) (suc r) y)) (word-E (p′ .at .table) e he (ok .1 .1)))
+        ∙ ap₂ (λ i stop. walkBody k text (inLambda s stop) i (opened text (inLambda s stop) r stop w)) (add-one r) (row-after t h)
+        ∙ ap (λ m. cond m (walkStmts k text (suc r) (suc r + 1) (walk (stackOf s) y) .work) (walkExpr k text false (inLambda s end) (suc r) y)) (word-E (p′ .at .table) e he (ok .1 .1)))
         refl
         (step-out (lenE e) l p c b (expr-step e k (suc r) asValue he (ok .1 .1) (omega arith) p′ (around-in (lenE e) l p c b)))
 
-    exprs-step : (es : Exprs) (k r : ℕ) {s : ScopeStack} {ls : List Placed} {v : Env} {st : State} {seen : List Fault} {w : List ℕ} → Here rows r (rowsEs es) → WordedEs es
+    exprs-step : (es : Exprs) (k r : ℕ) {s : Scope} {ls : List Placed} {v : Env} {st : State} {seen : List Fault} {w : List ℕ} → Here rows r (rowsEs es) → WordedEs es
         → lenEs es ≤ k → Stands text rows num own s ls v st seen w r → Around rows own s ls v st r (r + lenEs es)
         → Step num s ls v st seen r (lenEs es) w (walkExprs k text s r (r + lenEs es) w) (rawEs es (suc (suc r)) ls v st)
     exprs-step enil k r {s} {w = w} h ok few p c =
@@ -215,7 +214,7 @@ module _ {text : Bytes} {rows : List Row} {num : Bytes → ℕ} {own : OwnNames}
         (exprs-step es k (r + lenE e) (here-past (sized-e e) (rowsEs es) h) (ok .1) (omega arith) (onward p (inner-outer (c .lambdas)) q) (around-part (omega arith) (omega arith) c)))
 
 -- ---- outside of lambdas
-module _ {text : Bytes} {rows : List Row} {num : Bytes → ℕ} {own : OwnNames} (k r : ℕ) {s : ScopeStack} {v : Env} (st : State) {seen : List Fault} {w : List ℕ} (f : Flat s v)
+module _ {text : Bytes} {rows : List Row} {num : Bytes → ℕ} {own : OwnNames} (k r : ℕ) {s : Scope} {v : Env} (st : State) {seen : List Fault} {w : List ℕ} (f : Flat s v)
     (p : At text rows num own s [] v (st .view) seen w r) where
   stands-at : Stands text rows num own s [] v st seen w r
   stands-at = record {
@@ -236,6 +235,7 @@ module _ {text : Bytes} {rows : List Row} {num : Bytes → ℕ} {own : OwnNames}
       blocks = λ x l. raised-same (c .blocks (num x));
     };
     beyond = λ i _ _. ap (λ x. x / 8_192) (c .fourths i);
+    early = λ i _. ap (λ x. x / 8_192) (c .fourths i);
   }
 
   pub expr-walked : (e : Expr) → Here rows r (rowsE e) → WordedE e → lenE e ≤ k → r + lenE e ≤ s .end → s .end ≤ length rows → Still own v st r (r + lenE e) → (v .home ≡ inDef → Told rows own r (r + lenE e))

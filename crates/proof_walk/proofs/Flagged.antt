@@ -198,7 +198,7 @@ module _ (text : Bytes) (rows : List Row) (num : Bytes → ℕ) (b : ℕ) (ns : 
                 ∙ s ∙ ap₂ (λ (y : Line) r. flagOf ns (y .name .bytes) r) (sym line ∙ ap (λ r. getD rows r noRow .line) (sym d)) (sym d);
           }
         where
-          small : (s t : Bool) → cond s 0 (cond t 2 1) < 4
+          small : (s t : Bool) → cond s 0 (cond t 2 1) < 524_288
           small true t = omega arith
           small false true = omega arith
           small false false = omega arith

@@ -18,7 +18,7 @@ use Rattle.spec_faults.proofs.Deduped.{sameCapture, dedupe, seenAfter, dedupe-a
 use Rattle.work_rows.specs.Rows.{Row}
 use Rattle.work_marks.specs.MarksModel.{stampBase, lambdaEnd, blockEnd, slotAt}
 use Rattle.work_marks.proofs.Writes.{Words, Kept, kept-refl, kept-trans}
-use Rattle.walk_scopes.specs.declared.ScopeStack.{ScopeStack}
+use Rattle.walk_scopes.specs.ScopesModel.{Scope}
 use Rattle.proof_walk.specs.Notes.{OwnNames}
 use Rattle.proof_walk.specs.Slots.{keyOf, slotsFrom, keys}
 use Rattle.proof_walk.proofs.State.{Open, blamed, placeOf, Places, At}
@@ -70,13 +70,13 @@ pub data Captured (home : Home) (locals : List Part) (st : State) (x : Bytes) : 
   notInView : home ≡ inModule → mem x locals ≡ false → mem x (st .view) ≡ false → Captured home locals st x
 
 -- at row r of an expression, with what holds of those names
-pub record Stands (text : Bytes) (rows : List Row) (num : Bytes → ℕ) (own : OwnNames) (s : ScopeStack) (ls : List Placed) (v : Env) (st : State) (seen : List Fault) (w : List ℕ) (r : ℕ) : Type 0 where
+pub record Stands (text : Bytes) (rows : List Row) (num : Bytes → ℕ) (own : OwnNames) (s : Scope) (ls : List Placed) (v : Env) (st : State) (seen : List Fault) (w : List ℕ) (r : ℕ) : Type 0 where
   pub at : At text rows num own s ls v (st .view) seen w r
   pub captured : (x : Bytes) → blamed (placeOf ls) seen x ≡ true → Captured (v .home) (v .locals) st x
   pub far : (x : Bytes) → num x < 4_096 → blamed (placeOf ls) seen x ≡ true → s .outer ≤ lambdaEnd w (num x)
 
 -- n rows from row r on, with the faults fs, took the buffer w to z
-pub record Step (num : Bytes → ℕ) (s : ScopeStack) (ls : List Placed) (v : Env) (st : State) (seen : List Fault) (r n : ℕ) (w z : List ℕ) (fs : List Fault) : Type 0 where
+pub record Step (num : Bytes → ℕ) (s : Scope) (ls : List Placed) (v : Env) (st : State) (seen : List Fault) (r n : ℕ) (w z : List ℕ) (fs : List Fault) : Type 0 where
   pub kept : Kept w z
   pub words : Words z
   pub slots : slotsFrom z r n ≡ keys (dedupe seen fs)
@@ -113,7 +113,7 @@ slots-both w r (suc n) m =
 pub open-on : {end r i mark : ℕ} {b : Bool} → r ≤ i → Open end r mark b → Open end i mark b
 open-on l o = record { far = o .far; closed = λ e. omega (arith, o .closed e) }
 
-module _ {num : Bytes → ℕ} {s : ScopeStack} {ls : List Placed} {v : Env} {st : State} where
+module _ {num : Bytes → ℕ} {s : Scope} {ls : List Placed} {v : Env} {st : State} where
   pub step-both : {seen : List Fault} {r n m : ℕ} {w y z : List ℕ} {fs gs : List Fault} → Step num s ls v st seen r n w y fs
       → Step num s ls v st (seenAfter seen fs) (r + n) m y z gs → Step num s ls v st seen r (n + m) w z (fs ++ gs)
   step-both {seen} {r} {n} {m} {w} {y} {z} {fs} {gs} p q =

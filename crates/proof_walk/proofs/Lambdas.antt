@@ -20,8 +20,8 @@ use Rattle.read_names.specs.ChainsModel.{lookup}
 use Rattle.work_rows.specs.Rows.{Row}
 use Rattle.work_marks.specs.MarksModel.{stampBase, lambdaEnd, blockEnd, slotAt, raisedBlock, raisedLambda}
 use Rattle.work_marks.proofs.Writes.{Words, Kept, kept-refl, kept-trans, raised-lambda-same, raised-lambda-other, raised-lambda-block, raised-lambda-slot, raised-lambda-fourth, kept-raised-lambda, words-raised-lambda}
-use Rattle.walk_scopes.specs.ScopesModel.{aDef, owns, pushedLambda, defined}
-use Rattle.walk_scopes.specs.declared.ScopeStack.{ScopeStack}
+use Rattle.walk_scopes.specs.ScopesModel.{Scope, aDef, owns, defined}
+use Rattle.walk_tree.specs.WalkModel.{inLambda}
 use Rattle.walk_own_names.specs.OwnNamesModel.{noted, flagged}
 use Rattle.read_row.specs.RowModel.{paramsOf}
 use Rattle.read_row.specs.Worded.{Some, Somes}
@@ -44,14 +44,14 @@ pub record Bound (num : Bytes → ℕ) (end : ℕ) (ps : List Part) (w z : List 
   pub marked : (x : Bytes) → num x < 4_096 → mem x ps ≡ true → lambdaEnd z (num x) ≡ max (lambdaEnd w (num x)) end
   pub others : (x : Bytes) → num x < 4_096 → mem x ps ≡ false → lambdaEnd z (num x) ≡ lambdaEnd w (num x)
 
-module _ (text : Bytes) (s : ScopeStack) (deep : 0 < s .inner) where
+module _ (text : Bytes) (s : Scope) (i : ℕ) (deep : 0 < s .inner) where
   owns-none : owns s ≡ false
   owns-none = ap (λ t. eqb (s .home) aDef && t) (ne-eqb (s .inner) 0 (λ e. omega arith)) ∙ and-false (eqb (s .home) aDef)
 
-  entered-one : (x : Bytes) (w : List ℕ) → enteredOne text s x w ≡ raisedLambda w (lookup text w x) (s .inner)
+  entered-one : (x : Bytes) (w : List ℕ) → enteredOne text s i x w ≡ raisedLambda w (lookup text w x) (s .inner)
   unfolding enteredOne defined
   entered-one x w =
-      ap (λ t. cond t (noted (s .block) (lookup text w x) (s .block + 1) (defined s w (lookup text w x))) (defined s w (lookup text w x))) owns-none
+      ap (λ t. cond t (noted i (lookup text w x) (i + 1) (defined s w (lookup text w x))) (defined s w (lookup text w x))) owns-none
       ∙ ap (λ t. cond t (raisedBlock w (lookup text w x) (s .end)) (raisedLambda w (lookup text w x) (s .inner))) (ne-eqb (s .inner) 0 (λ e. omega arith))
 
   -- one parameter, and then the others
@@ -89,7 +89,7 @@ module _ (text : Bytes) (s : ScopeStack) (deep : 0 < s .inner) where
       none x l false false e d h = b .others x l d ∙ other x l e
 
   bound-all : {num : Bytes → ℕ} {rows : List Row} (few : s .inner < 8_192) (ps : List Part) (w : List ℕ) → Table text rows num w → Somes ps
-      → Bound num (s .inner) ps w (entered text s ps w)
+      → Bound num (s .inner) ps w (entered text s i ps w)
   unfolding entered
   bound-all few [] w t so = record {
     kept = kept-refl w;
@@ -101,29 +101,29 @@ module _ (text : Bytes) (s : ScopeStack) (deep : 0 < s .inner) where
     others = λ x l m. refl;
   }
   bound-all {num} few (p ∷ ps) w t so =
-      let e : enteredOne text s (p .bytes) w ≡ raisedLambda w (num (p .bytes)) (s .inner) =
+      let e : enteredOne text s i (p .bytes) w ≡ raisedLambda w (num (p .bytes)) (s .inner) =
       entered-one (p .bytes) w ∙ ap (λ a. raisedLambda w a (s .inner)) (t .found (p .bytes) (so .0)) in
-      subst (λ y. Bound num (s .inner) (p ∷ ps) w (entered text s ps y)) (sym e)
-      (bound-one few p ps w (entered text s ps (raisedLambda w (num (p .bytes)) (s .inner))) t (so .0)
+      subst (λ y. Bound num (s .inner) (p ∷ ps) w (entered text s i ps y)) (sym e)
+      (bound-one few p ps w (entered text s i ps (raisedLambda w (num (p .bytes)) (s .inner))) t (so .0)
       (bound-all few ps (raisedLambda w (num (p .bytes)) (s .inner)) (table-kept (kept-raised-lambda w _ _) t) (so .1)))
 
-  pub bound-opened : {num : Bytes → ℕ} {rows : List Row} (few : s .inner < 8_192) (i stop : ℕ) (ps : List Part) (w : List ℕ) → Table text rows num w → Somes ps
+  pub bound-opened : {num : Bytes → ℕ} {rows : List Row} (few : s .inner < 8_192) (stop : ℕ) (ps : List Part) (w : List ℕ) → Table text rows num w → Somes ps
       → paramsOf text w i ≡ ps → Bound num (s .inner) ps w (opened text s i stop w)
   unfolding opened
-  bound-opened {num} few i stop ps w t so e =
-      let y : List ℕ = entered text s (paramsOf text w i) w in
-      subst (Bound num (s .inner) ps w) (sym (ap (λ b. cond b (flagged (s .block) (i + 1) stop y) y) owns-none ∙ ap (λ ps. entered text s ps w) e))
+  bound-opened {num} few stop ps w t so e =
+      let y : List ℕ = entered text s i (paramsOf text w i) w in
+      subst (Bound num (s .inner) ps w) (sym (ap (λ b. cond b (flagged i (i + 1) stop y) y) owns-none ∙ ap (λ ps. entered text s i ps w) e))
       (bound-all few ps w t so)
 
 -- ---- the stack under a lambda that ends at the row end
-outer-flat : (s : ScopeStack) (end : ℕ) → s .outer ≡ 0 → pushedLambda s end .outer ≡ end
+outer-flat : (s : Scope) (end : ℕ) → s .outer ≡ 0 → inLambda s end .outer ≡ end
 outer-flat s end e = ap (λ t. cond t end (s .outer)) (eq-eqb (s .outer) 0 e)
 
-outer-under : (s : ScopeStack) (end : ℕ) → 0 < s .outer → pushedLambda s end .outer ≡ s .outer
+outer-under : (s : Scope) (end : ℕ) → 0 < s .outer → inLambda s end .outer ≡ s .outer
 outer-under s end l = ap (λ t. cond t end (s .outer)) (ne-eqb (s .outer) 0 (λ e. omega arith))
 
-module _ {s : ScopeStack} {v : Env} {r end : ℕ} (l : Line) where
-  under-in : {ls : List Placed} {stop : ℕ} → r < end → stop ≤ end → end ≤ 4_096 → Under s v r end ls → Under (pushedLambda s end) (withParams (l .params) v) (suc r) stop (readAt r l ∷ ls)
+module _ {s : Scope} {v : Env} {r end : ℕ} (l : Line) where
+  under-in : {ls : List Placed} {stop : ℕ} → r < end → stop ≤ end → end ≤ 4_096 → Under s v r end ls → Under (inLambda s end) (withParams (l .params) v) (suc r) stop (readAt r l ∷ ls)
   under-in on stops few (flat f) =
       let e = outer-flat s end (f .outer) in
       under {q = readAt r l} {qs = []} (record { some = omega arith; inside = omega arith; wide = omega arith; few = omega arith; lined = omega arith; early = omega arith })
@@ -152,16 +152,16 @@ module _ {s : ScopeStack} {v : Env} {r end : ℕ} (l : Line) where
 
   -- the mark of a name that no one around it is blamed for
   mark-out : {ls : List Placed} → Under s v r end ls → (seen : List Fault) (x : Bytes) (old new : ℕ) → blamed (placeOf ls) seen x ≡ false
-      → (blamed (placeOf (readAt r l ∷ ls)) seen x ≡ false → new ≤ max old end) → new ≤ max old (max (pushedLambda s end .outer) end) → new ≤ max old end
+      → (blamed (placeOf (readAt r l ∷ ls)) seen x ≡ false → new ≤ max old end) → new ≤ max old (max (inLambda s end .outer) end) → new ≤ max old end
   mark-out (flat f) seen x old new b near most = let e = outer-flat s end (f .outer) in omega arith
   mark-out (under d) seen x old new b near most = omega (arith, near b)
 
   -- the outermost end grows from nothing to this one's end
-  outer-most : {ls : List Placed} → Under s v r end ls → pushedLambda s end .outer ≤ max (s .outer) end
+  outer-most : {ls : List Placed} → Under s v r end ls → inLambda s end .outer ≤ max (s .outer) end
   outer-most (flat f) = let e = outer-flat s end (f .outer) in omega arith
   outer-most (under d) = let e = outer-under s end (d .some) in omega arith
 
-  outer-least : {ls : List Placed} → Under s v r end ls → s .outer ≤ pushedLambda s end .outer
+  outer-least : {ls : List Placed} → Under s v r end ls → s .outer ≤ inLambda s end .outer
   outer-least (flat f) = let e = f .outer in omega arith
   outer-least (under d) = let e = outer-under s end (d .some) in omega arith
 
@@ -172,13 +172,13 @@ module _ {s : ScopeStack} {v : Env} {r end : ℕ} (l : Line) where
   open-in (under d) seen p x b = d .inside
 
   far-in : {ls : List Placed} → Under s v r end ls → (seen : List Fault) → Places r seen → (x : Bytes)
-      → blamed (placeOf ls) seen x ≡ true → pushedLambda s end .outer ≤ s .outer
+      → blamed (placeOf ls) seen x ≡ true → inLambda s end .outer ≤ s .outer
   far-in (flat f) seen p x b = absurd (false≢true (sym (none-blamed x r seen p) ∙ b))
   far-in (under d) seen p x b = let e = outer-under s end (d .some) in omega arith
 
 -- ---- the rows of a lambda
-module _ {text : Bytes} {rows : List Row} {num : Bytes → ℕ} {own : OwnNames} {s : ScopeStack} {ls : List Placed} {v : Env} {st : State} {seen : List Fault} {w y : List ℕ} {r : ℕ} (n : ℕ) (l : Line) (p : Stands text rows num own s ls v st seen w r) (c : Around rows own s ls v st r (r + suc n)) (b : Bound num (r + suc n) (l .params) w y) where
-  pub around-in : Around rows own (pushedLambda s (r + suc n)) (readAt r l ∷ ls) (withParams (l .params) v) st (suc r) (suc r + n)
+module _ {text : Bytes} {rows : List Row} {num : Bytes → ℕ} {own : OwnNames} {s : Scope} {ls : List Placed} {v : Env} {st : State} {seen : List Fault} {w y : List ℕ} {r : ℕ} (n : ℕ) (l : Line) (p : Stands text rows num own s ls v st seen w r) (c : Around rows own s ls v st r (r + suc n)) (b : Bound num (r + suc n) (l .params) w y) where
+  pub around-in : Around rows own (inLambda s (r + suc n)) (readAt r l ∷ ls) (withParams (l .params) v) st (suc r) (suc r + n)
   around-in = record {
     lambdas = under-in l (omega arith) (omega arith) (omega (arith, c .inside, c .ends, p .at .table .few)) (c .lambdas);
     inside = omega (arith, c .inside);
@@ -194,7 +194,7 @@ module _ {text : Bytes} {rows : List Row} {num : Bytes → ℕ} {own : OwnNames}
       go true e = let m = b .marked x j e in record { up = omega arith; most = omega arith }
       go false e = let m = b .others x j e in record { up = omega arith; most = omega arith }
 
-  pub stands-in : Stands text rows num own (pushedLambda s (r + suc n)) (readAt r l ∷ ls) (withParams (l .params) v) st seen y (suc r)
+  pub stands-in : Stands text rows num own (inLambda s (r + suc n)) (readAt r l ∷ ls) (withParams (l .params) v) st seen y (suc r)
   stands-in = record {
     at = record {
       table = table-kept (b .kept) (p .at .table);
@@ -229,7 +229,7 @@ module _ {text : Bytes} {rows : List Row} {num : Bytes → ℕ} {own : OwnNames}
         closed = λ _. omega (arith, b .others x j e, p .at .params x j .closed d);
       }
 
-  pub step-out : {z : List ℕ} {fs : List Fault} → Step num (pushedLambda s (r + suc n)) (readAt r l ∷ ls) (withParams (l .params) v) st seen (suc r) n y z fs
+  pub step-out : {z : List ℕ} {fs : List Fault} → Step num (inLambda s (r + suc n)) (readAt r l ∷ ls) (withParams (l .params) v) st seen (suc r) n y z fs
       → Step num s ls v st seen r (suc n) w z fs
   step-out {z} {fs} q =
       step-below (p .at .clean r (omega arith) (omega (arith, c .inside, c .ends)))

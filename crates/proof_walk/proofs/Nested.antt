@@ -1,26 +1,30 @@
 -- A block in a block: what holds around it before it holds after it, where the walk comes back. Marks that it raised end with it, and it
 -- writes flags in its own rows alone.
-use Prim.Native.Nat.{ℕ, suc, _/_, _≤_, _<_, max}
+use Prim.Native.Nat.{ℕ, suc, _+_, _/_, _≤_, _<_, max}
 use native.Mathlib.Omega.{arith}
-use mathlib.Core.Path.{_≡_, sym, ap, _∙_, subst, refl}
+use mathlib.Core.Path.{_≡_, sym, ap, ap₂, _∙_, subst, refl}
 use mathlib.Core.Bool.{Bool, true, false, cond, _||_, true≢false}
-use mathlib.Core.List.{List, [], _++_}
+use mathlib.Core.List.{List, [], _∷_, _++_}
+use lib.Dec.{eqb}
 use lib.ListN.{length}
 use Rattle.spec_text.specs.Bytes.{Bytes, Part, mem}
-use Rattle.spec_text.specs.Tree.{Stmts}
+use Rattle.spec_text.specs.Tree.{Line, Stmts}
 use Rattle.spec_faults.specs.Position.{inDef}
 use Rattle.spec_faults.specs.Faults.{Fault}
 use Rattle.spec_faults.proofs.Lists.{mem-append}
 use Rattle.spec_faults.proofs.ListingWalk.{Env}
 use Rattle.spec_faults.proofs.Deduped.{seenAfter, seen-append}
-use Rattle.work_rows.specs.Rows.{Row}
-use Rattle.work_marks.specs.MarksModel.{lambdaEnd, blockEnd, slotAt, stampAt, flagAt}
+use Rattle.work_rows.specs.Rows.{Row, row}
+use Rattle.work_marks.specs.MarksModel.{lambdaEnd, blockEnd, slotAt, stampAt, flagAt, linkAt}
 use Rattle.work_marks.proofs.Writes.{Words, Kept, kept-trans}
-use Rattle.walk_scopes.specs.ScopesModel.{pushed}
 use Rattle.walk_scopes.specs.declared.ScopeStack.{ScopeStack}
+use Rattle.walk_scopes.specs.ScopesModel.{Scope, aDef, aMethod, scopeAt, topOf}
+use Rattle.walk_scopes.proofs.Tops.{scope-block, below-block}
+use Rattle.walk_tree.specs.WalkModel.{walk, popped}
+use Rattle.proof_walk.specs.Table.{Table, Here}
 use Rattle.proof_walk.specs.Notes.{Note, OwnNames, noteOf}
 use Rattle.proof_walk.proofs.State.{homeNumber, Open, Raised, blamed, At}
-use Rattle.proof_walk.proofs.PartRows.{table-kept}
+use Rattle.proof_walk.proofs.PartRows.{table-kept, row-few, row-kind, row-after}
 use Rattle.proof_walk.proofs.Opened.{Bound, OpenedDef}
 use Rattle.proof_walk.proofs.Exprs.{Flat}
 use Rattle.proof_walk.proofs.Done.{raised-then, raised-far, open-raised, slots-then, Done}
@@ -36,12 +40,14 @@ pub record Entry (num : Bytes → ℕ) (b end : ℕ) (ps : List Part) (w v : Lis
   pub other : (x : Bytes) → num x < 4_096 → mem x ps ≡ false → blockEnd v (num x) ≡ blockEnd w (num x)
   pub low : (x : Bytes) → num x < 4_096 → stampAt v (num x) ≤ suc b
   pub flags : (i : ℕ) → end ≤ i → flagAt v i ≡ flagAt w i
+  pub early : (i : ℕ) → i ≤ b → flagAt v i ≡ flagAt w i
 
 entry-by : {num : Bytes → ℕ} {b end : ℕ} {ps : List Part} (w v : List ℕ) → Kept w v → Words v → ((i : ℕ) → i < 4_096 → slotAt v i ≡ slotAt w i) → ((a : ℕ) → a < 4_096 → lambdaEnd v a ≡ lambdaEnd w a)
     → ((a : ℕ) → a < 4_096 → Raised end (blockEnd w a) (blockEnd v a))
     → ((x : Bytes) → num x < 4_096 → blockEnd v (num x) ≡ cond (mem x ps) (max (blockEnd w (num x)) end) (blockEnd w (num x)))
-    → ((x : Bytes) → num x < 4_096 → stampAt v (num x) ≤ suc b) → ((i : ℕ) → end ≤ i → flagAt v i ≡ flagAt w i) → Entry num b end ps w v
-entry-by {num} {b} {end} {ps} w v kept words slots lambdas raised block low flags = record {
+    → ((x : Bytes) → num x < 4_096 → stampAt v (num x) ≤ suc b) → ((i : ℕ) → end ≤ i → flagAt v i ≡ flagAt w i)
+    → ((i : ℕ) → i ≤ b → flagAt v i ≡ flagAt w i) → Entry num b end ps w v
+entry-by {num} {b} {end} {ps} w v kept words slots lambdas raised block low flags early = record {
   kept = kept;
   words = words;
   slots = slots;
@@ -51,27 +57,52 @@ entry-by {num} {b} {end} {ps} w v kept words slots lambdas raised block low flag
   other = λ x l m. block x l ∙ ap (λ t. cond t (max (blockEnd w (num x)) end) (blockEnd w (num x))) m;
   low = low;
   flags = flags;
+  early = early;
 }
 
 pub entry-def : {rows : List Row} {num : Bytes → ℕ} {b end : ℕ} {ps : List Part} {ns : List Note} {body : Stmts} {w v : List ℕ} → Words w → OpenedDef rows num end b ps ns body w v → Entry num b end ps w v
-entry-def {w = w} {v = v} g o = entry-by w v (o .kept) (o .words g) (o .slot g) (o .lambda) (o .raised) (o .block) (o .low) (o .flags g)
+entry-def {w = w} {v = v} g o = entry-by w v (o .kept) (o .words g) (o .slot g) (o .lambda) (o .raised) (o .block) (o .low) (o .flags g) (o .early g)
 
 pub entry-method : {num : Bytes → ℕ} {b end : ℕ} {ps : List Part} {w v : List ℕ} → Words w → ((x : Bytes) → num x < 4_096 → stampAt w (num x) ≤ suc b) → Bound num end ps w v → Entry num b end ps w v
 entry-method {num} {w = w} {v = v} g low o =
-    entry-by w v (o .kept) (o .words g) (λ i _. o .slot g i) (o .lambda) (o .raised) (o .block) (λ x l. omega (arith, o .fourth (num x), low x l)) (λ i _. ap (λ x. x / 8_192) (o .fourth i))
+    entry-by w v (o .kept) (o .words g) (λ i _. o .slot g i) (o .lambda) (o .raised) (o .block) (λ x l. omega (arith, o .fourth (num x), low x l)) (λ i _. ap (λ x. x / 8_192) (o .fourth i)) (λ i _. ap (λ x. x / 8_192) (o .fourth i))
 
 -- ---- the block around a statement
-pub record Block (rows : List Row) (own : OwnNames) (s : ScopeStack) (v : Env) : Type 0 where
-  pub flat : Flat s v
-  pub room : s .end ≤ length rows
+-- its scope follows from its row, in every buffer that holds the rows
+pub record Block (text : Bytes) (rows : List Row) (num : Bytes → ℕ) (own : OwnNames) (t : ScopeStack) (v : Env) : Type 0 where
+  pub flat : Flat (topOf t) v
+  pub room : t .end ≤ length rows
+  pub few : t .row < 524_288
+  pub known : {z : List ℕ} → Table text rows num z → scopeAt z (t .row) ≡ t
 
-module _ {text : Bytes} {rows : List Row} {num : Bytes → ℕ} {own : OwnNames} {s : ScopeStack} {v : Env} (b : Block rows own s v) where
+-- the scope of the def or the method at a row
+abbrev pub blockOf : ℕ → ℕ → ℕ → ScopeStack
+blockOf home r stop = record { home = home; row = r; end = stop }
+
+-- of line l, with n lines below it
+module _ {text : Bytes} {rows : List Row} {num : Bytes → ℕ} {z : List ℕ} {r n : ℕ} {l : Line} {part : List Row} (t : Table text rows num z) (h : Here rows r (row l n ∷ part)) where
+  known-by : (home : ℕ) → cond (eqb (l .word) 5) aDef aMethod ≡ home → scopeAt z r ≡ blockOf home r (r + suc n)
+  known-by home e =
+      scope-block z r (row-few t h) ∙ ap₂ (λ a b. blockOf a r b) (ap (λ k. cond (eqb k 5) aDef aMethod) (row-kind t h) ∙ e) (row-after t h)
+
+  pub known-def : l .word ≡ 5 → scopeAt z r ≡ blockOf aDef r (r + suc n)
+  known-def e = known-by aDef (ap (λ k. cond (eqb k 5) aDef aMethod) e)
+
+  pub known-method : l .word ≡ 14 → scopeAt z r ≡ blockOf aMethod r (r + suc n)
+  known-method e = known-by aMethod (ap (λ k. cond (eqb k 5) aDef aMethod) e)
+
+-- a pop at the end of the block brings the scope around it back
+pub popped-back : {text : Bytes} {rows : List Row} {num : Bytes → ℕ} {own : OwnNames} {t : ScopeStack} {v : Env} {z : List ℕ} (home : ℕ) {r : ℕ} (stop : ℕ) → Block text rows num own t v → Table text rows num z → r < 4_096 → linkAt z r ≡ t .row
+    → popped (walk (blockOf home r stop) z) ≡ walk t z
+popped-back {z = z} home {r} stop b table few link = ap (λ u. walk u z) (below-block z (blockOf home r stop) few ∙ ap (scopeAt z) link ∙ b .known table)
+
+module _ {text : Bytes} {rows : List Row} {num : Bytes → ℕ} {own : OwnNames} {t : ScopeStack} {v : Env} (b : Block text rows num own t v) where
   -- ---- the way into a block in it: at row r the walk bound or noted something, and then went in; hm is the number of the block's home
   pub enter : {vs : List Part} {seen fs : List Fault} {w w₁ w₂ : List ℕ} {r stop : ℕ} {ps : List Part} (own′ : OwnNames) (v′ : Env) (hm : ℕ)
-      → Done text rows num own s v vs seen fs w w₁ r (suc r) → Entry num r stop ps w₁ w₂ → stop ≤ s .end → hm ≡ homeNumber (v′ .home) → v′ .params ≡ []
+      → Done text rows num own (topOf t) v vs seen fs w w₁ r (suc r) → Entry num r stop ps w₁ w₂ → stop ≤ t .end → hm ≡ homeNumber (v′ .home) → v′ .params ≡ []
       → (v′ .home ≡ inDef → (i : ℕ) → flagAt w₂ i ≡ own′ .flags i) → (v′ .home ≡ inDef → (x : Bytes) → mem x (v′ .locals) ≡ noteOf (own′ .notes) x)
       → ((v′ .home ≡ inDef → ⊥) → (x : Bytes) → mem x (v′ .locals) ≡ false)
-      → At text rows num own′ (pushed s hm r stop) [] v′ (ps ++ vs) (seenAfter seen fs) w₂ (suc r)
+      → At text rows num own′ (topOf (blockOf hm r stop)) [] v′ (ps ++ vs) (seenAfter seen fs) w₂ (suc r)
   enter {vs} {seen} {fs} {w} {w₁} {w₂} {r} {stop} {ps} own′ v′ hm p q inner home params flags locals others = record {
     table = table-kept (q .kept) (p .after .table);
     words = q .words;
@@ -97,14 +128,14 @@ module _ {text : Bytes} {rows : List Row} {num : Bytes → ℕ} {own : OwnNames}
           record { far = λ t. omega (arith, o .far t); closed = λ t. omega (arith, o .closed t) }
 
   -- ---- a block in it, from row r up to the row stop: the walk bound or noted something at its row, went in, and walked its body
-  pub nested : {us vs zs : List Part} {seen fs gs : List Fault} {w w₁ w₂ w₃ : List ℕ} {r stop : ℕ} {ps : List Part} {own′ : OwnNames} {s′ : ScopeStack} {v′ : Env}
-      → At text rows num own s [] v us seen w r → Done text rows num own s v vs seen fs w w₁ r (suc r) → Entry num r stop ps w₁ w₂
-      → s′ .end ≡ stop → Flat s′ v′ → Done text rows num own′ s′ v′ zs (seenAfter seen fs) gs w₂ w₃ (suc r) stop → stop ≤ s .end
-      → Done text rows num own s v vs seen (fs ++ gs) w w₃ r stop
+  pub nested : {us vs zs : List Part} {seen fs gs : List Fault} {w w₁ w₂ w₃ : List ℕ} {r stop : ℕ} {ps : List Part} {own′ : OwnNames} {s′ : Scope} {v′ : Env}
+      → At text rows num own (topOf t) [] v us seen w r → Done text rows num own (topOf t) v vs seen fs w w₁ r (suc r) → Entry num r stop ps w₁ w₂
+      → s′ .end ≡ stop → Flat s′ v′ → Done text rows num own′ s′ v′ zs (seenAfter seen fs) gs w₂ w₃ (suc r) stop → stop ≤ t .end
+      → Done text rows num own (topOf t) v vs seen (fs ++ gs) w w₃ r stop
   nested {us} {vs} {zs} {seen} {fs} {gs} {w} {w₁} {w₂} {w₃} {r} {stop} {ps} {own′} {s′} {v′} h p q end flat d inner =
       record {
         far = omega (arith, d .far);
-        after = subst (λ l. At text rows num own s [] v vs l w₃ stop) (sym (seen-append seen fs gs)) at;
+        after = subst (λ l. At text rows num own (topOf t) [] v vs l w₃ stop) (sym (seen-append seen fs gs)) at;
         slots = slots-then w₁ w₃ seen fs gs (p .far) (d .far) before (p .slots) (d .slots);
         change = record {
           kept = kept-trans (p .change .kept) kept;
@@ -112,6 +143,7 @@ module _ {text : Bytes} {rows : List Row} {num : Bytes → ℕ} {own : OwnNames}
           blocks = λ x l. raised-then (p .change .blocks x l) (raised-far inner (raised x l));
         };
         beyond = λ i l k. flags i l k ∙ p .beyond i (omega (arith, d .far)) k;
+        early = λ i l. d .early i (omega arith) ∙ q .early i (omega arith) ∙ p .early i l;
       }
     where
       few : length rows ≤ 4_096
@@ -129,7 +161,7 @@ module _ {text : Bytes} {rows : List Row} {num : Bytes → ℕ} {own : OwnNames}
       raised : (x : Bytes) → num x < 4_096 → Raised stop (blockEnd w₁ (num x)) (blockEnd w₃ (num x))
       raised x l = raised-then (q .blocks x l) (subst (λ e. Raised e (blockEnd w₂ (num x)) (blockEnd w₃ (num x))) end (d .change .blocks x l))
 
-      at : At text rows num own s [] v vs (seenAfter (seenAfter seen fs) gs) w₃ stop
+      at : At text rows num own (topOf t) [] v vs (seenAfter (seenAfter seen fs) gs) w₃ stop
       at = record {
         table = table-kept kept (p .after .table);
         words = d .after .words;

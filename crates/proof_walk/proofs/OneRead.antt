@@ -20,8 +20,7 @@ use Rattle.work_rows.specs.Rows.{Row, row}
 use Rattle.read_tree.specs.Laid.{noRow}
 use Rattle.work_marks.specs.MarksModel.{lambdaEnd, blockEnd, slotAt, flagAt, raisedLambda, putSlot}
 use Rattle.work_marks.proofs.Writes.{kept-trans, raised-lambda-same, raised-lambda-other, raised-lambda-block, raised-lambda-slot, raised-lambda-fourth, kept-raised-lambda, words-raised-lambda, slot-same, slot-other, slot-lambda, slot-block, slot-fourth, kept-slot, words-slot}
-use Rattle.walk_scopes.specs.ScopesModel.{aDef, module′, isDefined}
-use Rattle.walk_scopes.specs.declared.ScopeStack.{ScopeStack}
+use Rattle.walk_scopes.specs.ScopesModel.{Scope, aDef, module′, isDefined}
 use Rattle.walk_judge.specs.JudgeModel.{unboundKind, undefinedKind, faulted, flagIn, readOf}
 use Rattle.proof_walk.specs.Notes.{OwnNames, assignedBy, flagOf, Told}
 use Rattle.proof_walk.specs.Table.{Here}
@@ -36,13 +35,13 @@ abbrev pub Still : OwnNames → Env → State → ℕ → ℕ → Type 0
 Still own v st r stop = v .home ≡ inDef → (x : Bytes) (i : ℕ) → r ≤ i → i < stop → mem x (st .assigned) ≡ assignedBy (own .notes) x i
 
 -- outside of lambdas
-pub record Flat (s : ScopeStack) (v : Env) : Type 0 where
+pub record Flat (s : Scope) (v : Env) : Type 0 where
   pub outer : s .outer ≡ 0
   pub inner : s .inner ≡ 0
   pub params : v .params ≡ []
 
 -- under lambdas, the outermost of which is at this line
-pub record Beneath (s : ScopeStack) (place r stop : ℕ) : Type 0 where
+pub record Beneath (s : Scope) (place r stop : ℕ) : Type 0 where
   pub some : 0 < s .outer
   pub inside : stop ≤ s .inner
   pub wide : s .inner ≤ s .outer
@@ -50,11 +49,11 @@ pub record Beneath (s : ScopeStack) (place r stop : ℕ) : Type 0 where
   pub lined : 0 < place
   pub early : place < suc (suc r)
 
-pub data Under (s : ScopeStack) (v : Env) (r stop : ℕ) : List Placed → Type 0 where
+pub data Under (s : Scope) (v : Env) (r stop : ℕ) : List Placed → Type 0 where
   flat : Flat s v → Under s v r stop []
   under : {q : Placed} {qs : List Placed} → Beneath s (outermost q qs .number) r stop → Under s v r stop (q ∷ qs)
 
-pub record Around (rows : List Row) (own : OwnNames) (s : ScopeStack) (ls : List Placed) (v : Env) (st : State) (r stop : ℕ) : Type 0 where
+pub record Around (rows : List Row) (own : OwnNames) (s : Scope) (ls : List Placed) (v : Env) (st : State) (r stop : ℕ) : Type 0 where
   pub lambdas : Under s v r stop ls
   pub inside : stop ≤ s .end
   pub ends : s .end ≤ length rows
@@ -76,7 +75,7 @@ key-some n zero l = absurd (omega arith)
 key-some n (suc k) l = refl
 
 -- under lambdas, the names that the outermost is blamed for; outside, none
-open-before : {s : ScopeStack} {v : Env} {r stop : ℕ} {ls : List Placed} → Under s v r stop ls → r < stop → (seen : List Fault) (x : Bytes) → Places r seen
+open-before : {s : Scope} {v : Env} {r stop : ℕ} {ls : List Placed} → Under s v r stop ls → r < stop → (seen : List Fault) (x : Bytes) → Places r seen
     → (mem x (v .params) || blamed (placeOf ls) seen x) ≡ true → r < s .inner
 open-before {r = r} (flat f) l seen x p e = absurd (false≢true (sym (ap₂ _||_ (ap (mem x) (f .params)) (none-blamed x r seen p)) ∙ e))
 open-before (under b) l seen x p e = let i = b .inside in omega arith
@@ -87,7 +86,7 @@ module-def e = let z : _≡_ {A = ℕ} 0 1 = cc in omega arith
 method-def : inMethod ≡ inDef → ⊥
 method-def e = let z : _≡_ {A = ℕ} 0 1 = cc in omega arith
 
-module _ {text : Bytes} {rows : List Row} {num : Bytes → ℕ} {own : OwnNames} {s : ScopeStack} {ls : List Placed} {v : Env} {st : State} {seen : List Fault} {w : List ℕ} {r : ℕ} (p : Stands text rows num own s ls v st seen w r) {stop : ℕ} (c : Around rows own s ls v st r stop) (on : r < stop) (x : Bytes) (small : num x < 4_096) where
+module _ {text : Bytes} {rows : List Row} {num : Bytes → ℕ} {own : OwnNames} {s : Scope} {ls : List Placed} {v : Env} {st : State} {seen : List Fault} {w : List ℕ} {r : ℕ} (p : Stands text rows num own s ls v st seen w r) {stop : ℕ} (c : Around rows own s ls v st r stop) (on : r < stop) (x : Bytes) (small : num x < 4_096) where
   test-param : ltb r (lambdaEnd w (num x)) ≡ (mem x (v .params) || blamed (placeOf ls) seen x)
   test-param = open-test (s .inner) r (lambdaEnd w (num x)) _ (p .at .params x small) (open-before (c .lambdas) on seen x (p .at .places))
 
@@ -108,7 +107,7 @@ module _ {text : Bytes} {rows : List Row} {num : Bytes → ℕ} {own : OwnNames}
 
   -- the flag of the row, which has this name
   test-flag : {l : Line} {n : ℕ} {part : List Row} → Here rows r (row l n ∷ part) → l .word ≡ 17 → l .name .bytes ≡ x
-      → flagIn s w r ≡ cond (mem x (v .locals)) (cond (mem x (st .assigned)) 1 2) 0
+      → flagIn (s .home) w r ≡ cond (mem x (v .locals)) (cond (mem x (st .assigned)) 1 2) 0
   unfolding flagIn
   test-flag {l} h k q = go (v .home) refl
     where
@@ -131,7 +130,7 @@ module _ {text : Bytes} {rows : List Row} {num : Bytes → ℕ} {own : OwnNames}
           ∙ ap₂ (λ t u. cond t (cond u 1 2) 0) (sym (p .at .locals e x)) (sym (c .still e x r (omega arith) on))
 
 -- ---- the fault of a read
-module _ {text : Bytes} {rows : List Row} {num : Bytes → ℕ} {own : OwnNames} {s : ScopeStack} {ls : List Placed} {v : Env} {st : State} {seen : List Fault} {w : List ℕ} {r : ℕ} (p : Stands text rows num own s ls v st seen w r) (l : Line) (few : r < 4_096) (k : ℕ) (some : 0 < k) (most : k < 16) (q : Placed) where
+module _ {text : Bytes} {rows : List Row} {num : Bytes → ℕ} {own : OwnNames} {s : Scope} {ls : List Placed} {v : Env} {st : State} {seen : List Fault} {w : List ℕ} {r : ℕ} (p : Stands text rows num own s ls v st seen w r) (l : Line) (few : r < 4_096) (k : ℕ) (some : 0 < k) (most : k < 16) (q : Placed) where
   abbrev fault : Fault
   fault = faultAt k q (record { number = suc (suc r); line = l })
 
@@ -222,7 +221,7 @@ module _ {text : Bytes} {rows : List Row} {num : Bytes → ℕ} {own : OwnNames}
 abbrev pub readAt : ℕ → Line → Placed
 readAt r l = record { number = suc (suc r); line = l }
 
-module _ {text : Bytes} {rows : List Row} {num : Bytes → ℕ} {own : OwnNames} {s : ScopeStack} {v : Env} {st : State} {seen : List Fault} {w : List ℕ} {r : ℕ} (l : Line) (few : r < 4_096) (small : num (l .name .bytes) < 4_096) where
+module _ {text : Bytes} {rows : List Row} {num : Bytes → ℕ} {own : OwnNames} {s : Scope} {v : Env} {st : State} {seen : List Fault} {w : List ℕ} {r : ℕ} (l : Line) (few : r < 4_096) (small : num (l .name .bytes) < 4_096) where
   -- a name that the outermost lambda is blamed for already
   again : {q : Placed} {qs : List Placed} → Stands text rows num own s (q ∷ qs) v st seen w r → blamed (outermost q qs .number) seen (l .name .bytes) ≡ true
       → slotAt w r ≡ 0 → (k : ℕ) → capture k ≡ true → Step num s (q ∷ qs) v st seen r 1 w w (faultAt k (outermost q qs) (readAt r l) ∷ [])
@@ -247,40 +246,40 @@ module _ {text : Bytes} {rows : List Row} {num : Bytes → ℕ} {own : OwnNames}
 
   unbound-step : {ls : List Placed} {stop : ℕ} → Stands text rows num own s ls v st seen w r → Under s v r stop ls → {called : Bool} {u : Use} → CalledAs called u
       → blamed (placeOf ls) seen (l .name .bytes) ≡ false → Captured (v .home) (v .locals) st (l .name .bytes)
-      → Step num s ls v st seen r 1 w (faulted s (num (l .name .bytes)) r (unboundKind s called) w) (unbound ls u (readAt r l) ∷ [])
+      → Step num s ls v st seen r 1 w (faulted (s .outer) (num (l .name .bytes)) r (unboundKind (s .outer) called) w) (unbound ls u (readAt r l) ∷ [])
   unfolding faulted unboundKind
   unbound-step p (flat f) asValue b y =
-      subst (λ t. Step num s [] v st seen r 1 w (faulted s (num (l .name .bytes)) r (cond t 11 13) w) (faultAt 11 (readAt r l) (readAt r l) ∷ [])) (sym (eq-eqb (s .outer) 0 (f .outer)))
+      subst (λ t. Step num s [] v st seen r 1 w (faulted (s .outer) (num (l .name .bytes)) r (cond t 11 13) w) (faultAt 11 (readAt r l) (readAt r l) ∷ [])) (sym (eq-eqb (s .outer) 0 (f .outer)))
       (plain-fault p l few 11 (omega arith) (omega arith) (readAt r l) refl)
   unbound-step p (flat f) (asCallee {q}) b y =
-      subst (λ t. Step num s [] v st seen r 1 w (faulted s (num (l .name .bytes)) r (cond t 12 13) w) (faultAt 12 q (readAt r l) ∷ [])) (sym (eq-eqb (s .outer) 0 (f .outer)))
+      subst (λ t. Step num s [] v st seen r 1 w (faulted (s .outer) (num (l .name .bytes)) r (cond t 12 13) w) (faultAt 12 q (readAt r l) ∷ [])) (sym (eq-eqb (s .outer) 0 (f .outer)))
       (plain-fault p l few 12 (omega arith) (omega arith) q refl)
   unbound-step {stop = stop} p (under {q} {qs} d) {called} {u} a b y =
-      subst (λ t. Step num s (q ∷ qs) v st seen r 1 w (faulted s (num (l .name .bytes)) r (cond t (cond called 12 11) 13) w) (faultAt 13 (outermost q qs) (readAt r l) ∷ []))
+      subst (λ t. Step num s (q ∷ qs) v st seen r 1 w (faulted (s .outer) (num (l .name .bytes)) r (cond t (cond called 12 11) 13) w) (faultAt 13 (outermost q qs) (readAt r l) ∷ []))
       (sym (ne-eqb (s .outer) 0 (λ e. omega (arith, d .some))))
       (capture-fault p l few 13 (omega arith) (omega arith) (outermost q qs) stop d refl small refl b y)
 
   undefined-step : {ls : List Placed} {stop : ℕ} → Stands text rows num own s ls v st seen w r → Under s v r stop ls → {called : Bool} {u : Use} → CalledAs called u
       → blamed (placeOf ls) seen (l .name .bytes) ≡ false → mem (l .name .bytes) (v .locals) ≡ false → mem (l .name .bytes) (st .view) ≡ false → (h : Home) → v .home ≡ h
-      → Step num s ls v st seen r 1 w (faulted s (num (l .name .bytes)) r (undefinedKind s called) w) (undefined h ls u (readAt r l) ∷ [])
+      → Step num s ls v st seen r 1 w (faulted (s .outer) (num (l .name .bytes)) r (undefinedKind (s .home) (s .outer) called) w) (undefined h ls u (readAt r l) ∷ [])
   unfolding faulted undefinedKind
   undefined-step p (flat f) asValue b o i h e =
-      subst (λ t. Step num s [] v st seen r 1 w (faulted s (num (l .name .bytes)) r (cond t 8 (cond (eqb (s .home) module′) 10 8)) w) (faultAt 8 (readAt r l) (readAt r l) ∷ []))
+      subst (λ t. Step num s [] v st seen r 1 w (faulted (s .outer) (num (l .name .bytes)) r (cond t 8 (cond (eqb (s .home) module′) 10 8)) w) (faultAt 8 (readAt r l) (readAt r l) ∷ []))
       (sym (eq-eqb (s .outer) 0 (f .outer)))
       (plain-fault p l few 8 (omega arith) (omega arith) (readAt r l) refl)
   undefined-step p (flat f) (asCallee {q}) b o i h e =
-      subst (λ t. Step num s [] v st seen r 1 w (faulted s (num (l .name .bytes)) r (cond t 9 (cond (eqb (s .home) module′) 10 9)) w) (faultAt 9 q (readAt r l) ∷ []))
+      subst (λ t. Step num s [] v st seen r 1 w (faulted (s .outer) (num (l .name .bytes)) r (cond t 9 (cond (eqb (s .home) module′) 10 9)) w) (faultAt 9 q (readAt r l) ∷ []))
       (sym (eq-eqb (s .outer) 0 (f .outer)))
       (plain-fault p l few 9 (omega arith) (omega arith) q refl)
   undefined-step {stop = stop} p (under {q} {qs} d) {called} {u} a b o i h e =
-      subst (λ t. Step num s (q ∷ qs) v st seen r 1 w (faulted s (num (l .name .bytes)) r (cond t (cond called 9 8) (cond (eqb (s .home) module′) 10 (cond called 9 8))) w) (undefined h (q ∷ qs) u (readAt r l) ∷ []))
+      subst (λ t. Step num s (q ∷ qs) v st seen r 1 w (faulted (s .outer) (num (l .name .bytes)) r (cond t (cond called 9 8) (cond (eqb (s .home) module′) 10 (cond called 9 8))) w) (undefined h (q ∷ qs) u (readAt r l) ∷ []))
       (sym (ne-eqb (s .outer) 0 (λ z. omega (arith, d .some))))
-      (subst (λ n. Step num s (q ∷ qs) v st seen r 1 w (faulted s (num (l .name .bytes)) r (cond (eqb n module′) 10 (cond called 9 8)) w) (undefined h (q ∷ qs) u (readAt r l) ∷ []))
+      (subst (λ n. Step num s (q ∷ qs) v st seen r 1 w (faulted (s .outer) (num (l .name .bytes)) r (cond (eqb n module′) 10 (cond called 9 8)) w) (undefined h (q ∷ qs) u (readAt r l) ∷ []))
       (sym (p .at .home ∙ ap homeNumber e))
       (go h e a))
     where
       go : (h : Home) → v .home ≡ h → {called : Bool} {u : Use} → CalledAs called u
-          → Step num s (q ∷ qs) v st seen r 1 w (faulted s (num (l .name .bytes)) r (cond (eqb (homeNumber h) module′) 10 (cond called 9 8)) w) (undefined h (q ∷ qs) u (readAt r l) ∷ [])
+          → Step num s (q ∷ qs) v st seen r 1 w (faulted (s .outer) (num (l .name .bytes)) r (cond (eqb (homeNumber h) module′) 10 (cond called 9 8)) w) (undefined h (q ∷ qs) u (readAt r l) ∷ [])
       go inModule e a = capture-fault p l few 10 (omega arith) (omega arith) (outermost q qs) stop d refl small refl b (notInView e o i)
       go inDef e asValue = plain-fault p l few 8 (omega arith) (omega arith) (readAt r l) refl
       go inDef e (asCallee {q = k}) = plain-fault p l few 9 (omega arith) (omega arith) k refl
@@ -288,18 +287,18 @@ module _ {text : Bytes} {rows : List Row} {num : Bytes → ℕ} {own : OwnNames}
       go inMethod e (asCallee {q = k}) = plain-fault p l few 9 (omega arith) (omega arith) k refl
 
 -- the buffer after a read of the name a at row r, by what the tests say
-abbrev readBy : ScopeStack → Bool → ℕ → ℕ → List ℕ → Bool → Bool → Bool → Bool → List ℕ
-readBy s called a r w t o m d = cond t w (cond o (cond m (faulted s a r (unboundKind s called) w) w) (cond d w (faulted s a r (undefinedKind s called) w)))
+abbrev readBy : Scope → Bool → ℕ → ℕ → List ℕ → Bool → Bool → Bool → Bool → List ℕ
+readBy s called a r w t o m d = cond t w (cond o (cond m (faulted (s .outer) a r (unboundKind (s .outer) called) w) w) (cond d w (faulted (s .outer) a r (undefinedKind (s .home) (s .outer) called) w)))
 
 -- and by what the flag says
-by-flag : (s : ScopeStack) (called : Bool) (a r : ℕ) (w : List ℕ) (t o m d : Bool)
-    → cond t w (cond (eqb (cond o (cond m 1 2) 0) 1) w (cond (eqb (cond o (cond m 1 2) 0) 2) (faulted s a r (unboundKind s called) w) (cond d w (faulted s a r (undefinedKind s called) w))))
+by-flag : (s : Scope) (called : Bool) (a r : ℕ) (w : List ℕ) (t o m d : Bool)
+    → cond t w (cond (eqb (cond o (cond m 1 2) 0) 1) w (cond (eqb (cond o (cond m 1 2) 0) 2) (faulted (s .outer) a r (unboundKind (s .outer) called) w) (cond d w (faulted (s .outer) a r (undefinedKind (s .home) (s .outer) called) w))))
     ≡ readBy s called a r w t o (not m) d
 by-flag s called a r w t true true d = refl
 by-flag s called a r w t true false d = refl
 by-flag s called a r w t false m d = refl
 
-module _ {text : Bytes} {rows : List Row} {num : Bytes → ℕ} {own : OwnNames} {s : ScopeStack} {ls : List Placed} {v : Env} {st : State} {seen : List Fault} {w : List ℕ} {r : ℕ} (p : Stands text rows num own s ls v st seen w r) {stop : ℕ} (c : Around rows own s ls v st r stop) (on : r < stop)
+module _ {text : Bytes} {rows : List Row} {num : Bytes → ℕ} {own : OwnNames} {s : Scope} {ls : List Placed} {v : Env} {st : State} {seen : List Fault} {w : List ℕ} {r : ℕ} (p : Stands text rows num own s ls v st seen w r) {stop : ℕ} (c : Around rows own s ls v st r stop) (on : r < stop)
     {l : Line} {n : ℕ} {part : List Row} (here : Here rows r (row l n ∷ part)) (word : l .word ≡ 17) (small : num (l .name .bytes) < 4_096) where
   read-tests : (called : Bool) → readOf s called (num (l .name .bytes)) r w
       ≡ readBy s called (num (l .name .bytes)) r w (mem (l .name .bytes) (v .params) || blamed (placeOf ls) seen (l .name .bytes)) (mem (l .name .bytes) (v .locals))
@@ -307,7 +306,7 @@ module _ {text : Bytes} {rows : List Row} {num : Bytes → ℕ} {own : OwnNames}
   unfolding readOf
   read-tests called =
       let x : Bytes = l .name .bytes in
-      ap₂ (λ t f. cond t w (cond (eqb f 1) w (cond (eqb f 2) (faulted s (num x) r (unboundKind s called) w) (cond (isDefined w (num x) r) w (faulted s (num x) r (undefinedKind s called) w)))))
+      ap₂ (λ t f. cond t w (cond (eqb f 1) w (cond (eqb f 2) (faulted (s .outer) (num x) r (unboundKind (s .outer) called) w) (cond (isDefined w (num x) r) w (faulted (s .outer) (num x) r (undefinedKind (s .home) (s .outer) called) w)))))
       (test-param p c on x small) (test-flag p c on x small here word refl)
       ∙ by-flag s called (num x) r w (mem x (v .params) || blamed (placeOf ls) seen x) (mem x (v .locals)) (mem x (st .assigned)) (isDefined w (num x) r)
       ∙ ap (readBy s called (num x) r w (mem x (v .params) || blamed (placeOf ls) seen x) (mem x (v .locals)) (not (mem x (st .assigned)))) (test-view p c on x small)

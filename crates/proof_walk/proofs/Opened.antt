@@ -20,9 +20,8 @@ use Rattle.work_marks.specs.MarksModel.{stampBase, lambdaEnd, blockEnd, slotAt,
 use Rattle.read_names.specs.ChainsModel.{lookup}
 use Rattle.work_rows.specs.Rows.{Row, row, rowsS}
 use Rattle.work_marks.proofs.Writes.{Words, Kept, kept-refl, kept-trans, raised-block-same, raised-block-other, raised-block-lambda, raised-block-slot, raised-block-fourth, kept-raised-block, words-raised-block, fourth-apart}
-use Rattle.walk_scopes.specs.declared.ScopeStack.{ScopeStack}
-use Rattle.walk_scopes.specs.ScopesModel.{owns, defined}
-use Rattle.walk_scopes.proofs.Define.{defined-block}
+use Rattle.walk_scopes.specs.ScopesModel.{Scope, owns, defined}
+use Rattle.walk_scopes.proofs.Defined.{defined-block}
 use Rattle.walk_own_names.specs.OwnNamesModel.{noted, forgot, allBindings, allFlagged, flagged}
 use Rattle.read_row.specs.RowModel.{paramsOf}
 use Rattle.read_row.specs.Worded.{Somes, WordedS}
@@ -144,33 +143,33 @@ module _ (num : Bytes → ℕ) (end : ℕ) where
         two k m false false e = e
 
 -- ---- the parameters are entered
-module _ {text : Bytes} {rows : List Row} {num : Bytes → ℕ} (s : ScopeStack) (flat : s .inner ≡ 0) where
+module _ {text : Bytes} {rows : List Row} {num : Bytes → ℕ} (s : Scope) (i : ℕ) (flat : s .inner ≡ 0) where
   bind-one : (w : List ℕ) (x : Bytes) → (x ≡ [] → ⊥) → Table text rows num w → defined s w (lookup text w x) ≡ raisedBlock w (num x) (s .end)
   bind-one w x q t = defined-block s w (lookup text w x) flat ∙ ap (λ a. raisedBlock w a (s .end)) (t .found x q)
 
-  entered-plain : owns s ≡ false → (ps : List Part) (w : List ℕ) → Somes ps → Table text rows num w → entered text s ps w ≡ raiseAll num (s .end) ps w
+  entered-plain : owns s ≡ false → (ps : List Part) (w : List ℕ) → Somes ps → Table text rows num w → entered text s i ps w ≡ raiseAll num (s .end) ps w
   unfolding entered enteredOne
   entered-plain o [] w q t = refl
   entered-plain o (p ∷ ps) w q t =
-      ap (entered text s ps) (rw o (bind-one w (p .bytes) (q .0) t))
+      ap (entered text s i ps) (rw o (bind-one w (p .bytes) (q .0) t))
       ∙ entered-plain o ps (raisedBlock w (num (p .bytes)) (s .end)) (q .1) (table-kept (kept-raised-block w (num (p .bytes)) (s .end)) t)
 
   entered-own : owns s ≡ true → (ps : List Part) (w : List ℕ) → Somes ps → Table text rows num w
-      → entered text s ps w ≡ doAll num (noted (s .block)) (map (note (suc (s .block))) ps) (raiseAll num (s .end) ps w)
+      → entered text s i ps w ≡ doAll num (noted i) (map (note (suc i)) ps) (raiseAll num (s .end) ps w)
   unfolding entered enteredOne
   entered-own o [] w q t = refl
   entered-own o (p ∷ ps) w q t =
       let a : ℕ = num (p .bytes) in
       let u : List ℕ = raisedBlock w a (s .end) in
       let k : Table text rows num u = table-kept (kept-raised-block w a (s .end)) t in
-      let v : List ℕ = noted (s .block) a (suc (s .block)) u in
-      ap (entered text s ps) (rw o (ap₂ (λ c z. noted (s .block) c (s .block + 1) z) (t .found (p .bytes) (q .0)) (bind-one w (p .bytes) (q .0) t)
-      ∙ ap (λ f. noted (s .block) a f u) (add-one (s .block))))
-      ∙ entered-own o ps v (q .1) (table-kept (restamped-noted (s .block) a (suc (s .block)) u .kept) k)
-      ∙ ap (doAll num (noted (s .block)) (map (note (suc (s .block))) ps)) (sym (raise-noted-all num (s .end) (s .block) a (suc (s .block)) ps u))
+      let v : List ℕ = noted i a (suc i) u in
+      ap (entered text s i ps) (rw o (ap₂ (λ c z. noted i c (i + 1) z) (t .found (p .bytes) (q .0)) (bind-one w (p .bytes) (q .0) t)
+      ∙ ap (λ f. noted i a f u) (add-one i)))
+      ∙ entered-own o ps v (q .1) (table-kept (restamped-noted i a (suc i) u .kept) k)
+      ∙ ap (doAll num (noted i) (map (note (suc i)) ps)) (sym (raise-noted-all num (s .end) i a (suc i) ps u))
 
 -- ---- the block of a method: its parameters are bound
-pub opened-method : {text : Bytes} {rows : List Row} {num : Bytes → ℕ} {w : List ℕ} (s : ScopeStack) → s .inner ≡ 0 → (s .home ≡ 1 → ⊥)
+pub opened-method : {text : Bytes} {rows : List Row} {num : Bytes → ℕ} {w : List ℕ} (s : Scope) → s .inner ≡ 0 → (s .home ≡ 1 → ⊥)
     → {i n : ℕ} {l : Line} {part : List Row} → Table text rows num w → Here rows i (row l n ∷ part) → l .word ≡ 14 → Somes (l .params) → s .end < 8_192 → (stop : ℕ)
     → Bound num (s .end) (l .params) w (opened text s i stop w)
 unfolding opened
@@ -178,8 +177,8 @@ opened-method {text} {rows} {num} {w} s flat home {i} {l = l} t h k q low stop =
     let o : owns s ≡ false = ap (λ b. b && eqb (s .inner) 0) (ne-eqb (s .home) 1 home) in
     let e : paramsOf text w i ≡ l .params = row-params t h (subst ParamWord (sym k) method) in
     subst (Bound num (s .end) (l .params) w)
-    (sym (ap (λ b. cond b (flagged (s .block) (i + 1) stop (entered text s (paramsOf text w i) w)) (entered text s (paramsOf text w i) w)) o
-    ∙ ap (λ ps. entered text s ps w) e ∙ entered-plain s flat o (l .params) w q t))
+    (sym (ap (λ b. cond b (flagged i (i + 1) stop (entered text s i (paramsOf text w i) w)) (entered text s i (paramsOf text w i) w)) o
+    ∙ ap (λ ps. entered text s i ps w) e ∙ entered-plain s i flat o (l .params) w q t))
     (bound-all num (s .end) low (t .apart) (l .params) w (t .room))
 
 -- ---- the block of a def at row b: its parameters ps are bound up to the row end, and its body's rows are flagged by its notes ns
@@ -192,15 +191,13 @@ pub record OpenedDef (rows : List Row) (num : Bytes → ℕ) (end b : ℕ) (ps :
   pub block : (x : Bytes) → num x < 4_096 → blockEnd v (num x) ≡ cond (mem x ps) (max (blockEnd w (num x)) end) (blockEnd w (num x))
   pub low : (x : Bytes) → num x < 4_096 → stampAt v (num x) ≤ suc b
   pub flags : Words w → (i : ℕ) → end ≤ i → flagAt v i ≡ flagAt w i
+  pub early : Words w → (i : ℕ) → i ≤ b → flagAt v i ≡ flagAt w i
   pub told : Words w → ToldSs rows (record { notes = ns; flags = flagAt v }) body (suc b)
 
 -- no stamp comes after the def's row before
-module _ {text : Bytes} {rows : List Row} {num : Bytes → ℕ} {w : List ℕ} (s : ScopeStack) (home : s .home ≡ 1) (flat : s .inner ≡ 0) (l : Line) (b : Stmts)
-    (t : Table text rows num w) (h : Here rows (s .block) (rowsS (def l b))) (d : WordedS (def l b)) (end : s .end ≡ s .block + lenS (def l b)) (few : s .end < 8_191)
-    (old : (x : Bytes) → num x < 4_096 → stampAt w (num x) ≤ s .block) where
-  abbrev i : ℕ
-  i = s .block
-
+module _ {text : Bytes} {rows : List Row} {num : Bytes → ℕ} {w : List ℕ} (s : Scope) (i : ℕ) (home : s .home ≡ 1) (flat : s .inner ≡ 0) (l : Line) (b : Stmts)
+    (t : Table text rows num w) (h : Here rows i (rowsS (def l b))) (d : WordedS (def l b)) (end : s .end ≡ i + lenS (def l b)) (few : s .end < 8_191)
+    (old : (x : Bytes) → num x < 4_096 → stampAt w (num x) ≤ i) where
   -- the notes of the parameters, and of the body
   abbrev ms : List Note
   ms = map (note (suc i)) (l .params)
@@ -249,21 +246,21 @@ module _ {text : Bytes} {rows : List Row} {num : Bytes → ℕ} {w : List ℕ} (
   is-done : Restamped told done
   is-done = restamped-all num forgot restamped-forgot ns told
 
-  opened-steps : opened text s (s .block) (s .end) w ≡ done
+  opened-steps : opened text s i (s .end) w ≡ done
   unfolding opened
   opened-steps =
       let o : owns s ≡ true = ap₂ (λ a c. eqb a 1 && eqb c 0) home flat in
       let e : paramsOf text w i ≡ l .params = row-params t h (subst ParamWord (sym (d .0)) def) in
       let z : s .end ≡ suc i + lenSs b = omega arith in
       let g : Table text rows num (doAll num (noted i) ms bound) = table-kept (restamped-all num (noted i) (restamped-noted i) ms bound .kept) table-bound in
-      ap (λ c. cond c (flagged i (i + 1) (s .end) (entered text s (paramsOf text w i) w)) (entered text s (paramsOf text w i) w)) o
-      ∙ ap (λ ps. flagged i (i + 1) (s .end) (entered text s ps w)) e ∙ ap (flagged i (i + 1) (s .end)) (entered-own s flat o (l .params) w (d .1 .1 .0) t)
+      ap (λ c. cond c (flagged i (i + 1) (s .end) (entered text s i (paramsOf text w i) w)) (entered text s i (paramsOf text w i) w)) o
+      ∙ ap (λ ps. flagged i (i + 1) (s .end) (entered text s i ps w)) e ∙ ap (flagged i (i + 1) (s .end)) (entered-own s i flat o (l .params) w (d .1 .1 .0) t)
       ∙ ap₂ (λ at stop. flagged i at stop (doAll num (noted i) ms bound)) (add-one i) z
       ∙ ap (λ v. allBindings forgot (suc i) (suc i + lenSs b) (allFlagged i (suc i) (suc i + lenSs b) v))
       (gathered (noted i) (restamped-noted i) b (suc i) g (d .1 .1 .1) (here-tail h) ∙ sym (doAll-two num (noted i) ms ns bound))
       ∙ gathered forgot restamped-forgot b (suc i) table-told (d .1 .1 .1) (here-tail h)
 
-  pub opened-def : OpenedDef rows num (s .end) (s .block) (l .params) (notesD l b (s .block)) b w (opened text s (s .block) (s .end) w)
+  pub opened-def : OpenedDef rows num (s .end) i (l .params) (notesD l b i) b w (opened text s i (s .end) w)
   opened-def = subst (OpenedDef rows num (s .end) i (l .params) (ms ++ ns) b w) (sym opened-steps) (record {
     kept = kept-trans (is-bound .kept) (kept-trans (is-stamped .kept) (kept-trans (is-told .does .kept) (is-done .kept)));
     words = λ c. is-done .words (words c);
@@ -273,6 +270,7 @@ module _ {text : Bytes} {rows : List Row} {num : Bytes → ℕ} {w : List ℕ} (
     block = λ x c. same (num x) c ∙ is-bound .block x c;
     low = λ x c. low-again num (t .apart) x c i (l .params) ns later bound told (table-bound .room) (table-told .room) (old-bound x c) (is-told .does .stamp (num x));
     flags = λ c j m. is-done .flag (words c) j ∙ is-told .does .beyond j (omega arith) ∙ is-stamped .flag (is-bound .words c) j ∙ ap (λ x. x / 8_192) (is-bound .fourth j);
+    early = λ c j m. is-done .flag (words c) j ∙ is-told .does .before j (omega arith) ∙ is-stamped .flag (is-bound .words c) j ∙ ap (λ x. x / 8_192) (is-bound .fourth j);
     told = λ c. is-told .told (flagAt done) (λ k. is-done .flag (words c) k);
   })
     where

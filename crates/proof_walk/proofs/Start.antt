@@ -27,18 +27,19 @@ use Rattle.work_marks.specs.MarksModel.{lambdaEnd, blockEnd, stampAt, bare, bla
 use Rattle.work_marks.proofs.Writes.{Words, Kept, kept-refl, kept-trans, words-put, bare-kept, kept-fourth}
 use Rattle.work_rows.specs.LoopsModel.{rowsTo, nextRow}
 use Rattle.work_rows.proofs.Loops.{rows-end, rows-more, row-on}
-use Rattle.walk_scopes.specs.ScopesModel.{atModule, defined}
-use Rattle.walk_scopes.specs.declared.ScopeStack.{ScopeStack}
-use Rattle.walk_scopes.proofs.Define.{defined-block}
+use Rattle.walk_scopes.specs.ScopesModel.{Scope, atModule, topOf, defined}
+use Rattle.walk_scopes.proofs.Tops.{scope-module}
+use Rattle.walk_scopes.proofs.Defined.{defined-block}
 use Rattle.read_row.specs.Worded.{Somes, WordedSs}
 use Rattle.walk_given.specs.GivenModel.{given, globalsFrom, begun}
-use Rattle.walk_tree.specs.WalkModel.{walkLine, walked}
+use Rattle.walk_tree.specs.WalkModel.{Walk, walked}
 use Rattle.proof_walk.specs.Table.{Table, Here}
 use Rattle.proof_walk.specs.Notes.{noOwnNames}
 use Rattle.proof_walk.proofs.State.{homeNumber, Open, At}
 use Rattle.proof_walk.proofs.PartRows.{here-tail, here-past, row-number, table-kept}
 use Rattle.proof_walk.proofs.Done.{Done, done-then, done-skip, done-bind, looped-end}
 use Rattle.proof_walk.proofs.Nested.{Block}
+use Rattle.proof_walk.proofs.ByKind.{kids-end}
 use Rattle.proof_walk.proofs.Stmts.{stmts}
 
 -- ---- rows are cleared
@@ -111,7 +112,7 @@ all-clear n w l room g =
     }
 
 -- 4,096 is the number of no name
-defined-none : (s : ScopeStack) (w : List ℕ) (a : ℕ) → s .inner ≡ 0 → 4_096 ≤ a → defined s w a ≡ w
+defined-none : (s : Scope) (w : List ℕ) (a : ℕ) → s .inner ≡ 0 → 4_096 ≤ a → defined s w a ≡ w
 unfolding raisedBlock
 defined-none s w a e l = defined-block s w a e ∙ rw (le-ltb a rowsMost l) refl
 
@@ -137,10 +138,10 @@ mem-past x p (q ∷ ps) qs =
 -- rows of the module before the first statement, with these names in view
 module _ (text : Bytes) (rows : List Row) (num : Bytes → ℕ) where
   abbrev G : List Part → List ℕ → List ℕ → Type 0
-  G vs w v = Done text rows num noOwnNames (atModule (length rows)) moduleEnv vs [] [] w v 0 0
+  G vs w v = Done text rows num noOwnNames (topOf (atModule (length rows))) moduleEnv vs [] [] w v 0 0
 
   abbrev A : List Part → List ℕ → Type 0
-  A vs w = At text rows num noOwnNames (atModule (length rows)) [] moduleEnv vs [] w 0
+  A vs w = At text rows num noOwnNames (topOf (atModule (length rows))) [] moduleEnv vs [] w 0
 
   none : {B : Type 0} → inModule ≡ inDef → B
   none i = absurd (omega (arith, ap homeNumber i))
@@ -165,19 +166,20 @@ module _ (text : Bytes) (rows : List Row) (num : Bytes → ℕ) where
     slots = d .slots;
     change = d .change;
     beyond = d .beyond;
+    early = d .early;
   }
 
   stays : {ps : List Part} {w : List ℕ} → A ps w → G ps w w
   stays h = done-skip h (omega arith) (omega arith)
 
-  bind-one : (p : Part) {ps : List Part} {w : List ℕ} → A ps w → G (p ∷ ps) w (defined (atModule (length rows)) w (num (p .bytes)))
+  bind-one : (p : Part) {ps : List Part} {w : List ℕ} → A ps w → G (p ∷ ps) w (defined (topOf (atModule (length rows))) w (num (p .bytes)))
   bind-one p {ps} {w} h = go (ltb (num (p .bytes)) 4_096) refl
     where
-      go : (t : Bool) → ltb (num (p .bytes)) 4_096 ≡ t → G (p ∷ ps) w (defined (atModule (length rows)) w (num (p .bytes)))
+      go : (t : Bool) → ltb (num (p .bytes)) 4_096 ≡ t → G (p ∷ ps) w (defined (topOf (atModule (length rows))) w (num (p .bytes)))
       go true e = done-bind h p refl (omega (arith, h .table .few)) (ltb-true (num (p .bytes)) 4_096 e) (omega arith) (omega arith)
       go false e =
           let l : 4_096 ≤ num (p .bytes) = ltb-false (num (p .bytes)) 4_096 e in
-          subst (G (p ∷ ps) w) (sym (defined-none (atModule (length rows)) w (num (p .bytes)) refl l))
+          subst (G (p ∷ ps) w) (sym (defined-none (topOf (atModule (length rows))) w (num (p .bytes)) refl l))
           (view-same (λ x m. ap (λ t. t || mem x ps) (sym (other x m l (same x (p .bytes)) refl))) (stays h))
         where
           other : (x : Bytes) → num x < 4_096 → 4_096 ≤ num (p .bytes) → (t : Bool) → same x (p .bytes) ≡ t → t ≡ false
@@ -189,22 +191,22 @@ module _ (text : Bytes) (rows : List Row) (num : Bytes → ℕ) where
   bind-then p ps {qs} d e = view-same (λ x _. mem-past x p ps qs) (done-then d e)
 
   -- the built-in names
-  given-done : (ps : List Part) → Somes ps → {qs : List Part} {w : List ℕ} → A qs w → G (ps ++ qs) w (given text (atModule (length rows)) (map (λ (p : Part). p .bytes) ps) w)
+  given-done : (ps : List Part) → Somes ps → {qs : List Part} {w : List ℕ} → A qs w → G (ps ++ qs) w (given text (topOf (atModule (length rows))) (map (λ (p : Part). p .bytes) ps) w)
   unfolding given
   given-done [] c h = stays h
   given-done (p ∷ ps) c {qs} {w} h =
-      let d : G (p ∷ qs) w (defined (atModule (length rows)) w (lookup text w (p .bytes))) =
-      subst (λ a. G (p ∷ qs) w (defined (atModule (length rows)) w a)) (sym (h .table .found (p .bytes) (c .0))) (bind-one p h) in
+      let d : G (p ∷ qs) w (defined (topOf (atModule (length rows))) w (lookup text w (p .bytes))) =
+      subst (λ a. G (p ∷ qs) w (defined (topOf (atModule (length rows))) w a)) (sym (h .table .found (p .bytes) (c .0))) (bind-one p h) in
       bind-then p ps d (given-done ps (c .1) (d .after))
 
   -- and those of `global` lines
   globals-done : (ps : List Part) (i : ℕ) (part : List Row) → Somes ps → Here rows i (map globalRow ps ++ part) → {qs : List Part} {w : List ℕ} → A qs w
-      → G (ps ++ qs) w (globalsFrom (length ps) i (atModule (length rows)) w)
+      → G (ps ++ qs) w (globalsFrom (length ps) i (topOf (atModule (length rows))) w)
   unfolding globalsFrom
   globals-done [] i part c here h = stays h
   globals-done (p ∷ ps) i part c here {qs} {w} h =
-      let d : G (p ∷ qs) w (defined (atModule (length rows)) w (numberAt w i)) =
-      subst (λ a. G (p ∷ qs) w (defined (atModule (length rows)) w a)) (sym (row-number (h .table) here (c .0))) (bind-one p h) in
+      let d : G (p ∷ qs) w (defined (topOf (atModule (length rows))) w (numberAt w i)) =
+      subst (λ a. G (p ∷ qs) w (defined (topOf (atModule (length rows))) w a)) (sym (row-number (h .table) here (c .0))) (bind-one p h) in
       bind-then p ps d (globals-done ps (i + 1) part (c .1) (subst (λ j. Here rows j (map globalRow ps ++ part)) (sym (add-one i)) (here-tail here)) (d .after))
 
 -- ---- the whole walk: its rows hold the tree; numbers of names are rows; no mark of a lambda is open
@@ -218,7 +220,7 @@ module _ (text : Bytes) (t : Tree) (num : Bytes → ℕ) (w : List ℕ) (table :
 
   -- the buffer before the first statement
   abbrev pub started : List ℕ
-  started = begun text (atModule R) first R w
+  started = begun text (topOf (atModule R)) first R w
 
   -- and before the given names are bound
   abbrev cleared : List ℕ
@@ -268,18 +270,24 @@ module _ (text : Bytes) (t : Tree) (num : Bytes → ℕ) (w : List ℕ) (table :
       let z : 0 + first ≡ first = omega arith in
       subst (λ i. Here (rowsT t) i (rowsSs (t .body))) z (here-past {a = map globalRow (t .globals)} (record { count = length-map (t .globals) globalRow }) (rowsSs (t .body)) everything)
 
-  pub statements : Done text (rowsT t) num noOwnNames (atModule R) moduleEnv (afterSs (t .body) (startState t) .view) [] (rawSs (t .body) (firstLine t) [] moduleEnv (startState t))
+  pub statements : Done text (rowsT t) num noOwnNames (topOf (atModule R)) moduleEnv (afterSs (t .body) (startState t) .view) [] (rawSs (t .body) (firstLine t) [] moduleEnv (startState t))
       started (walked text first R w) first (first + lenSs (t .body))
   unfolding walked
   statements =
       let size : R ≡ first + lenSs (t .body) = rows-length t in
       let few = table .few in
-      let top : Done text (rowsT t) num noOwnNames (atModule R) moduleEnv (startState t .view) [] [] started started 0 first =
+      let top : Done text (rowsT t) num noOwnNames (topOf (atModule R)) moduleEnv (startState t .view) [] [] started started 0 first =
       done-skip (bound .after) (omega arith) (omega arith) in
-      let b : Block (rowsT t) noOwnNames (atModule R) moduleEnv = record { flat = record { outer = refl; inner = refl; params = refl }; room = omega arith } in
-      looped-end (λ z. rows-end afterRow (walkLine R text (atModule R)) (first + lenSs (t .body)) R z (omega arith))
-      (stmts text (rowsT t) num (t .body) R first (firstLine t) R b (omega arith) (omega arith)
-      body worded (top .after) (none text (rowsT t) num) (none text (rowsT t) num))
+      let b : Block text (rowsT t) num noOwnNames (atModule R) moduleEnv = record {
+        flat = record { outer = refl; inner = refl; params = refl };
+        room = omega arith;
+        few = omega arith;
+        known = λ {z} _. scope-module z (4_096 + R) (omega arith) ∙ ap atModule (omega arith);
+      } in
+      let g = stmts text (rowsT t) num (t .body) R first (firstLine t) R b (omega arith) (omega arith)
+      body worded (top .after) (none text (rowsT t) num) (none text (rowsT t) num) in
+      subst (λ z. Done text (rowsT t) num noOwnNames (topOf (atModule R)) moduleEnv (afterSs (t .body) (startState t) .view) [] (rawSs (t .body) (firstLine t) [] moduleEnv (startState t)) started z first (first + lenSs (t .body)))
+      (sym (ap (λ (x : Walk). x .work) (g .goes ∙ kids-end text R (atModule R) R (first + lenSs (t .body)) (g .there) (omega arith)))) (g .done)
 
   pub started-kept : Kept w started
   started-kept = kept-trans (clears .kept) (bound .change .kept)

@@ -15,7 +15,7 @@ use Rattle.spec_faults.proofs.ListingWalk.{Env}
 use Rattle.work_rows.specs.Rows.{Row}
 use Rattle.work_marks.specs.MarksModel.{lambdaEnd, blockEnd, slotAt, stampAt, flagAt}
 use Rattle.work_marks.proofs.Writes.{Words}
-use Rattle.walk_scopes.specs.declared.ScopeStack.{ScopeStack}
+use Rattle.walk_scopes.specs.ScopesModel.{Scope}
 use Rattle.proof_walk.specs.Table.{Table}
 use Rattle.proof_walk.specs.Notes.{OwnNames, noteOf}
 
@@ -49,7 +49,7 @@ abbrev pub Places : ℕ → List Fault → Type 0
 Places r seen = Each (λ (g : Fault). (0 < g .place) × (g .place < suc (suc r))) seen
 
 -- at row r, where the names vs are in view
-pub record At (text : Bytes) (rows : List Row) (num : Bytes → ℕ) (own : OwnNames) (s : ScopeStack) (ls : List Placed) (v : Env) (vs : List Part) (seen : List Fault) (w : List ℕ) (r : ℕ) : Type 0 where
+pub record At (text : Bytes) (rows : List Row) (num : Bytes → ℕ) (own : OwnNames) (s : Scope) (ls : List Placed) (v : Env) (vs : List Part) (seen : List Fault) (w : List ℕ) (r : ℕ) : Type 0 where
   pub table : Table text rows num w
   pub words : Words w
   pub home : s .home ≡ homeNumber (v .home)

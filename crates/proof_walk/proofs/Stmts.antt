@@ -5,6 +5,7 @@ use mathlib.Core.Path.{_≡_, refl, sym, ap, _∙_, subst}
 use mathlib.Core.Bool.{Bool, true, false, cond, not}
 use mathlib.Core.List.{List, [], _∷_, _++_, append-assoc, append-nil}
 use lib.Dec.{eqb}
+use lib.ListN.{length}
 use Rattle.spec_text.specs.Bytes.{Bytes, Part}
 use Rattle.spec_text.specs.Tree.{Line, Expr, Exprs, Attrs, Stmt, Stmts, Methods, enil, econs, anil, acons, simple, assign, block, choice, for, def, class, snil, scons, mnil, mcons, lenE, lenEs, lenAs, lenS, lenSs, lenMs}
 use Rattle.spec_faults.specs.Position.{Home, inModule, inDef, inMethod, value}
@@ -15,15 +16,16 @@ use Rattle.spec_faults.proofs.Deduped.{seenAfter}
 use Rattle.work_rows.specs.Layout.{kindAt, afterRow}
 use Rattle.work_rows.specs.Rows.{Row, row, rowsE, rowsEs, rowsAs, rowsS, rowsSs, rowsMs}
 use Rattle.work_rows.proofs.Lengths.{sized-e, sized-s, sized-ss, sized-ms}
-use Rattle.work_marks.specs.MarksModel.{stampAt, flagAt, putSlot}
+use Rattle.work_marks.specs.MarksModel.{stampAt, flagAt, putSlot, putLink}
+use Rattle.work_rows.specs.LoopsModel.{rowsTo}
 use Rattle.work_rows.proofs.Loops.{rows-end}
-use Rattle.work_marks.proofs.Writes.{raised-block-fourth}
-use Rattle.walk_scopes.specs.ScopesModel.{aDef, aMethod, module′, pushed, defined}
+use Rattle.work_marks.proofs.Writes.{raised-block-fourth, flag-same, flag-stamp}
 use Rattle.walk_scopes.specs.declared.ScopeStack.{ScopeStack}
-use Rattle.walk_scopes.proofs.Define.{defined-block}
+use Rattle.walk_scopes.specs.ScopesModel.{aDef, aMethod, module′, topOf, defined}
+use Rattle.walk_scopes.proofs.Defined.{defined-block}
 use Rattle.read_row.specs.Worded.{Somes, WordedE, WordedEs, WordedAs, WordedS, WordedSs, WordedMs}
 use Rattle.walk_blocks.specs.BlocksModel.{opened}
-use Rattle.walk_tree.specs.WalkModel.{nextTarget, targetAt, walkExpr, walkStmt, walkLine}
+use Rattle.walk_tree.specs.WalkModel.{Walk, walk, popped, nextTarget, targetAt, walkExpr, walkStmt}
 use Rattle.proof_walk.specs.Table.{ParamWord, method, Table, Here}
 use Rattle.proof_walk.specs.Notes.{OwnNames, noOwnNames, notesS, notesSs, notesD, Told, ToldS, ToldSs}
 use Rattle.proof_walk.proofs.State.{homeNumber, At}
@@ -32,10 +34,10 @@ use Rattle.proof_walk.proofs.WordTests.{simple-test, block-test}
 use Rattle.proof_walk.proofs.Assigned.{Assigns, stmts-first, stmts-rest, assign-still, assign-target, block-still, block-body, choice-still, choice-body, choice-elifs, choice-else, for-still, for-body, none-still, cut, def-body, locals}
 use Rattle.proof_walk.proofs.Opened.{OpenedDef, opened-def, opened-method}
 use Rattle.proof_walk.proofs.Exprs.{Still, word-E, expr-walked}
-use Rattle.proof_walk.proofs.Done.{Done, Spans, done-then, done-skip, done-fault, done-bind, done-to, Looped, looped-one, looped-then, looped-to, looped-end}
+use Rattle.proof_walk.proofs.Done.{Done, Comes, Spans, comes-then, done-then, done-link, done-skip, done-fault, done-bind, done-to, Looped, looped-one, looped-then, looped-to, looped-end}
 use Rattle.proof_walk.proofs.Targets.{target}
-use Rattle.proof_walk.proofs.Nested.{Entry, entry-def, entry-method, Block, enter, nested}
-use Rattle.proof_walk.proofs.ByKind.{some-stmt, stmt-kind, plain, kids, at-plain, at-assign, at-for, at-def, at-class, at-method, at-attr, line-stmt, line-expr}
+use Rattle.proof_walk.proofs.Nested.{Entry, entry-def, entry-method, Block, blockOf, known-def, known-method, popped-back, enter, nested}
+use Rattle.proof_walk.proofs.ByKind.{some-stmt, stmt-kind, plain, kids, kids-end, at-plain, at-assign, at-for, at-def, at-class, at-method, at-attr, line-stmt, line-expr}
 
 -- what the def at row r is opened with, where z is the buffer then
 abbrev def-own : Line → Stmts → ℕ → List ℕ → OwnNames
@@ -43,22 +45,44 @@ def-own l bd r z = record { notes = notesD l bd r; flags = flagAt z }
 
 module _ (text : Bytes) (rows : List Row) (num : Bytes → ℕ) where
   -- ---- in one block
-  module _ {own : OwnNames} {s : ScopeStack} {v : Env} (b : Block rows own s v) (k : ℕ) where
+  module _ {own : OwnNames} {s : ScopeStack} {v : Env} (b : Block text rows num own s v) (k : ℕ) where
     abbrev D : List Part → List Fault → List Fault → List ℕ → List ℕ → ℕ → ℕ → Type 0
-    D = Done text rows num own s v
+    D = Done text rows num own (topOf s) v
 
     abbrev L : ℕ → List Part → List Fault → List Fault → List ℕ → ℕ → ℕ → Type 0
-    L stop = Looped text rows num own s v (kids text k s stop)
+    L stop = Looped text rows num own (topOf s) v (kids text k s stop)
+
+    abbrev C : Walk → List Part → List Fault → List Fault → List ℕ → ℕ → ℕ → Type 0
+    C = Comes text rows num own s v
 
     abbrev R : List Part → List Fault → List ℕ → ℕ → Type 0
-    R = At text rows num own s [] v
+    R = At text rows num own (topOf s) [] v
 
     -- the row of a statement that has no fault and binds nothing
     head : {vs : List Part} {seen : List Fault} {w : List ℕ} {r : ℕ} → R vs seen w r → suc r ≤ s .end → D vs seen [] w w r (suc r)
     head h l = done-skip h (omega arith) (omega (arith, b .room))
 
+    -- x is a loop over what is left of the statement, after some rows
+    ended : {x : Walk} {us vs : List Part} {seen fs gs : List Fault} {w v₁ : List ℕ} {r m stop : ℕ} → x ≡ kids text k s stop m v₁ → D us seen fs w v₁ r m
+        → L stop vs (seenAfter seen fs) gs v₁ m stop → C x vs seen (fs ++ gs) w r stop
+    ended {stop = stop} p d g = record {
+      there = g .there;
+      goes = p ∙ g .goes ∙ kids-end text k s stop stop (g .there) (omega arith);
+      done = done-then d (g .done);
+    }
+
+    -- lines of a loop, and then others
+    looped-on : (stop : ℕ) {us vs : List Part} {seen fs gs : List Fault} {w : List ℕ} {r m e : ℕ} → L stop us seen fs w r m
+        → ((z : List ℕ) → R us (seenAfter seen fs) z m → L stop vs (seenAfter seen fs) gs z m e) → L stop vs seen (fs ++ gs) w r e
+    looped-on stop g rest = looped-then (g .goes) (g .done) (rest (g .there) (g .done .after))
+
+    -- a statement as a line of a loop, and then others
+    looped-stmt : {stop : ℕ} {us vs : List Part} {seen fs gs : List Fault} {w : List ℕ} {r m e : ℕ} → C (walkStmt k text r (walk s w)) us seen fs w r m → r < stop → afterRow w r ≡ m → kindAt w r < 16
+        → ((z : List ℕ) → R us (seenAfter seen fs) z m → L stop vs (seenAfter seen fs) gs z m e) → L stop vs seen (fs ++ gs) w r e
+    looped-stmt {stop} {w = w} {r} {m} c l after kind rest = looped-then (line-stmt text k s stop r w l m after kind (c .there) (c .goes)) (c .done) (rest (c .there) (c .done .after))
+
     expr-done : (e : Expr) (r n : ℕ) (st : State) {seen : List Fault} {w : List ℕ} → Spans (lenE e) k r n (s .end) → Here rows r (rowsE e) → WordedE e
-        → R (st .view) seen w r → Still own v st r (r + lenE e) → (v .home ≡ inDef → Told rows own r (r + lenE e)) → D (st .view) seen (rawE e n value [] v st) w (walkExpr k text false s r w) r (r + lenE e)
+        → R (st .view) seen w r → Still own v st r (r + lenE e) → (v .home ≡ inDef → Told rows own r (r + lenE e)) → D (st .view) seen (rawE e n value [] v st) w (walkExpr k text false (topOf s) r w) r (r + lenE e)
     expr-done e r n st f here d h still told =
         done-to refl (ap (λ i. rawE e i value [] v st) (sym (f .line))) (expr-walked k r st (b .flat) h e here d (f .depth) (f .inside) (b .room) still told)
 
@@ -85,11 +109,9 @@ module _ (text : Bytes) (rows : List Row) (num : Bytes → ℕ) where
     -- the lines below the row r of a plain statement are one loop
     plain-done : (l : Line) (below : ℕ) (part : List Row) (r : ℕ) {us vs : List Part} {seen fs : List Fault} {w : List ℕ} → plain (l .word) ≡ true → Here rows r (row l below ∷ part)
         → R us seen w r → D us seen [] w w r (suc r) → {e : ℕ} → e ≡ r + suc below → L (r + suc below) vs seen fs w (suc r) e
-        → D vs seen fs w (walkStmt (suc k) text s r w) r (r + suc below)
-    plain-done l below part r {us} {vs} {seen} {fs} {w} p here h d {e} q g =
-        subst (λ z. D vs seen fs w z r (r + suc below))
-        (sym (at-plain text k s r w (row-few (h .table) here) (r + suc below) (row-after (h .table) here) (ap plain (row-kind (h .table) here) ∙ p)))
-        (done-then d (looped-end (λ z. rows-end afterRow (walkLine k text s) (r + suc below) (r + suc below) z (omega arith)) (looped-to q refl g)))
+        → C (walkStmt (suc k) text r (walk s w)) vs seen fs w r (r + suc below)
+    plain-done l below part r {w = w} p here h d q g =
+        ended (at-plain text k s r w (row-few (h .table) here) (r + suc below) (row-after (h .table) here) (ap plain (row-kind (h .table) here) ∙ p)) d (looped-to q refl g)
 
     -- a plain statement whose first line is an expression
     test-done : (l : Line) (e : Expr) (below : ℕ) (part : List Row) (r n : ℕ) (st : State) {vs : List Part} {seen gs : List Fault} {w : List ℕ} → plain (l .word) ≡ true
@@ -97,7 +119,7 @@ module _ (text : Bytes) (rows : List Row) (num : Bytes → ℕ) where
         → (v .home ≡ inDef → Told rows own r (suc r + lenE e))
         → ((z : List ℕ) → R (st .view) (seenAfter seen (rawE e (suc n) value [] v st)) z (suc r + lenE e)
         → L (r + suc below) vs (seenAfter seen (rawE e (suc n) value [] v st)) gs z (suc r + lenE e) (r + suc below))
-        → D vs seen (rawE e (suc n) value [] v st ++ gs) w (walkStmt (suc k) text s r w) r (r + suc below)
+        → C (walkStmt (suc k) text r (walk s w)) vs seen (rawE e (suc n) value [] v st ++ gs) w r (r + suc below)
     test-done l e below part r n st {vs} {seen} {gs} {w} p f o here d h still told rest =
         let top : D (st .view) seen [] w w r (suc r) = head h (omega arith) in
         let h₁ : R (st .view) seen w (suc r) = top .after in
@@ -105,75 +127,117 @@ module _ (text : Bytes) (rows : List Row) (num : Bytes → ℕ) where
         plain-done l below (rowsE e ++ part) r p here h top refl (looped-then (test .goes) (test .done) (rest (test .there) (test .done .after)))
 
     -- ---- a def: its name is bound, and its body is a block of its own
-    abbrev def-block : (l : Line) (bd : Stmts) (r : ℕ) (z : List ℕ) → r + lenS (def l bd) ≤ s .end → Block rows (def-own l bd r z) (pushed s aDef r (r + lenS (def l bd))) (defEnv l bd)
-    def-block l bd r z m = record {
+    abbrev def-scope : Line → Stmts → ℕ → ScopeStack
+    def-scope l bd r = blockOf aDef r (r + lenS (def l bd))
+
+    def-block : (l : Line) (bd : Stmts) (r : ℕ) (z : List ℕ) → Here rows r (rowsS (def l bd)) → l .word ≡ 5 → r + lenS (def l bd) ≤ s .end → length rows ≤ 4_096
+        → Block text rows num (def-own l bd r z) (def-scope l bd r) (defEnv l bd)
+    def-block l bd r z here word m few = record {
       flat = record { outer = refl; inner = refl; params = refl };
       room = omega (arith, b .room);
+      few = omega (arith, b .room);
+      known = λ table. known-def table here word;
     }
 
     def-done : (l : Line) (bd : Stmts) (r : ℕ) {us vs : List Part} {seen gs : List Fault} {w : List ℕ} (here : Here rows r (rowsS (def l bd))) (d : WordedS (def l bd))
         (m : r + lenS (def l bd) ≤ s .end) → R us seen w r
-        → ((z : List ℕ) → At text rows num (def-own l bd r z) (pushed s aDef r (r + lenS (def l bd))) [] (defEnv l bd) (l .params ++ (l .name ∷ us)) seen z (suc r)
+        → ((z : List ℕ) → At text rows num (def-own l bd r z) (topOf (def-scope l bd r)) [] (defEnv l bd) (l .params ++ (l .name ∷ us)) seen z (suc r)
         → ToldSs rows (def-own l bd r z) bd (suc r)
-        → Looped text rows num (def-own l bd r z) (pushed s aDef r (r + lenS (def l bd))) (defEnv l bd) (kids text k (pushed s aDef r (r + lenS (def l bd))) (r + lenS (def l bd)))
-        vs seen gs z (suc r) (r + lenS (def l bd)))
-        → D (l .name ∷ us) seen gs w (walkStmt (suc k) text s r w) r (r + lenS (def l bd))
-    def-done l bd r {us} {vs} {seen} {gs} {w} here d m h rest =
-        subst (λ z. D (l .name ∷ us) seen gs w z r stop)
-        (sym (at-def text k s r w (row-few at here) stop (row-after at here) (row-kind at here ∙ d .0) (num (l .name .bytes)) (row-number at here (d .1 .0))))
-        (nested b h p q refl (def-block l bd r w₂ m .flat)
-        (looped-end (λ z. rows-end afterRow (walkLine k text (pushed s aDef r stop)) stop stop z (omega arith)) (rest w₂ inside (o .told (p .after .words)))) m)
+        → Looped text rows num (def-own l bd r z) (topOf (def-scope l bd r)) (defEnv l bd) (kids text k (def-scope l bd r) (r + lenS (def l bd))) vs seen gs z (suc r) (r + lenS (def l bd)))
+        → C (walkStmt (suc k) text r (walk s w)) (l .name ∷ us) seen gs w r (r + lenS (def l bd))
+    def-done l bd r {us} {vs} {seen} {gs} {w} here d m h rest = record {
+      there = g .there;
+      goes =
+          at-def text k s r w (row-few at here) stop (row-after at here) (row-kind at here ∙ d .0) (num (l .name .bytes)) (row-number at here (d .1 .0)) top (known-def (p .after .table) here (d .0))
+          ∙ ap popped (g .goes ∙ kids-end text k top stop stop (g .there) (omega arith))
+          ∙ popped-back aDef stop b (whole .after .table) (row-few at here) (g .done .early r (omega arith) ∙ q .early r (omega arith) ∙ flag-same w₁ r (s .row) (p .after .table .room) (row-few at here) (b .few));
+      done = whole;
+    }
       where
         stop : ℕ
         stop = r + lenS (def l bd)
 
+        top : ScopeStack
+        top = def-scope l bd r
+
         at : Table text rows num w
         at = h .table
 
+        -- the name is bound; the row is linked; the block is entered
         w₁ : List ℕ
-        w₁ = defined s w (num (l .name .bytes))
+        w₁ = defined (topOf s) w (num (l .name .bytes))
 
         w₂ : List ℕ
-        w₂ = opened text (pushed s aDef r stop) r stop w₁
+        w₂ = putLink w₁ r (s .row)
+
+        w₃ : List ℕ
+        w₃ = opened text (topOf top) r stop w₂
 
         p : D (l .name ∷ us) seen [] w w₁ r (suc r)
-        p = done-bind h (l .name) (b .flat .inner) (omega (arith, b .room, at .few)) (row-small at here (d .1 .0)) (omega arith) (omega (arith, b .room))
+        p = done-bind h (l .name) refl (omega (arith, b .room, at .few)) (row-small at here (d .1 .0)) (omega arith) (omega (arith, b .room))
+
+        p′ : D (l .name ∷ us) seen [] w w₂ r (suc r)
+        p′ = done-link (s .row) (omega (arith, b .room)) p
 
         -- no stamp comes after this row yet
-        low : (x : Bytes) → num x < 4_096 → stampAt w₁ (num x) ≤ r
-        low x i = subst (λ z. stampAt z (num x) ≤ r) (sym (defined-block s w (num (l .name .bytes)) (b .flat .inner)))
-            (omega (arith, raised-block-fourth w (num (l .name .bytes)) (s .end) (num x), h .low x i))
+        low : (x : Bytes) → num x < 4_096 → stampAt w₂ (num x) ≤ r
+        low x i =
+            omega (
+              arith,
+              flag-stamp w₁ r (s .row) (num x),
+              subst (λ z. stampAt z (num x) ≤ r) (sym (defined-block (topOf s) w (num (l .name .bytes)) refl))
+                  (omega (arith, raised-block-fourth w (num (l .name .bytes)) (s .end) (num x), h .low x i)),
+            )
 
-        o : OpenedDef rows num stop r (l .params) (notesD l bd r) bd w₁ w₂
-        o = opened-def (pushed s aDef r stop) refl refl l bd (p .after .table) here d refl (omega (arith, b .room, at .few)) low
+        o : OpenedDef rows num stop r (l .params) (notesD l bd r) bd w₂ w₃
+        o = opened-def (topOf top) r refl refl l bd (p′ .after .table) here d refl (omega (arith, b .room, at .few)) low
 
-        q : Entry num r stop (l .params) w₁ w₂
-        q = entry-def (p .after .words) o
+        q : Entry num r stop (l .params) w₂ w₃
+        q = entry-def (p′ .after .words) o
 
-        inside : At text rows num (def-own l bd r w₂) (pushed s aDef r stop) [] (defEnv l bd) (l .params ++ (l .name ∷ us)) seen w₂ (suc r)
-        inside = enter b (def-own l bd r w₂) (defEnv l bd) aDef p q m refl refl (λ _ i. refl) (λ _ x. sym (locals x l bd r)) (λ no. absurd (no refl))
+        inside : At text rows num (def-own l bd r w₃) (topOf top) [] (defEnv l bd) (l .params ++ (l .name ∷ us)) seen w₃ (suc r)
+        inside = enter b (def-own l bd r w₃) (defEnv l bd) aDef p′ q m refl refl (λ _ i. refl) (λ _ x. sym (locals x l bd r)) (λ no. absurd (no refl))
+
+        g : Looped text rows num (def-own l bd r w₃) (topOf top) (defEnv l bd) (kids text k top stop) vs seen gs w₃ (suc r) stop
+        g = rest w₃ inside (o .told (p′ .after .words))
+
+        whole : D (l .name ∷ us) seen gs w (g .there) r stop
+        whole = nested b h p′ q refl (record { outer = refl; inner = refl; params = refl }) (g .done) m
 
     -- ---- a method of a class in the module: a block too, of which nothing is noted
-    abbrev method-block : (bd : Stmts) (r : ℕ) → r + suc (lenSs bd) ≤ s .end → Block rows noOwnNames (pushed s aMethod r (r + suc (lenSs bd))) methodEnv
-    method-block bd r m = record {
+    abbrev method-scope : Stmts → ℕ → ScopeStack
+    method-scope bd r = blockOf aMethod r (r + suc (lenSs bd))
+
+    method-block : (l : Line) (bd : Stmts) (part : List Row) (r : ℕ) → Here rows r (row l (lenSs bd) ∷ part) → l .word ≡ 14 → r + suc (lenSs bd) ≤ s .end → length rows ≤ 4_096
+        → Block text rows num noOwnNames (method-scope bd r) methodEnv
+    method-block l bd part r here word m few = record {
       flat = record { outer = refl; inner = refl; params = refl };
       room = omega (arith, b .room);
+      few = omega (arith, b .room);
+      known = λ table. known-method table here word;
     }
 
     method-done : (l c : Line) (bd : Stmts) (part : List Row) (r n : ℕ) {us vs : List Part} {seen gs : List Fault} {w : List ℕ} (m : r + suc (lenSs bd) ≤ s .end) → n ≡ suc (suc r)
         → Here rows r (row l (lenSs bd) ∷ part) → l .word ≡ 14 → Somes (l .params) → v .home ≡ inModule → R us seen w r
-        → ((z : List ℕ) → At text rows num noOwnNames (pushed s aMethod r (r + suc (lenSs bd))) [] methodEnv (l .params ++ us) (seenAfter seen (selfFault n l c)) z (suc r)
-        → Looped text rows num noOwnNames (pushed s aMethod r (r + suc (lenSs bd))) methodEnv (kids text k (pushed s aMethod r (r + suc (lenSs bd))) (r + suc (lenSs bd)))
+        → ((z : List ℕ) → At text rows num noOwnNames (topOf (method-scope bd r)) [] methodEnv (l .params ++ us) (seenAfter seen (selfFault n l c)) z (suc r)
+        → Looped text rows num noOwnNames (topOf (method-scope bd r)) methodEnv (kids text k (method-scope bd r) (r + suc (lenSs bd)))
         vs (seenAfter seen (selfFault n l c)) gs z (suc r) (r + suc (lenSs bd)))
-        → D us seen (selfFault n l c ++ gs) w (walkStmt (suc k) text s r w) r (r + suc (lenSs bd))
-    method-done l c bd part r n {us} {vs} {seen} {gs} {w} m row here word some home h rest =
-        subst (λ z. D us seen (selfFault n l c ++ gs) w z r stop)
-        (sym (at-method text k s r w (row-few at here) stop (row-after at here) (row-kind at here ∙ word) (l .params) (row-params at here (subst ParamWord (sym word) method))))
-        (nested b h p q refl (method-block bd r m .flat)
-        (looped-end (λ z. rows-end afterRow (walkLine k text (pushed s aMethod r stop)) stop stop z (omega arith)) (rest w₂ inside)) m)
+        → C (walkStmt (suc k) text r (walk s w)) us seen (selfFault n l c ++ gs) w r (r + suc (lenSs bd))
+    method-done l c bd part r n {us} {vs} {seen} {gs} {w} m row here word some home h rest = record {
+      there = g .there;
+      goes =
+          at-method text k s r w (row-few at here) stop (row-after at here) (row-kind at here ∙ word) (l .params) (row-params at here (subst ParamWord (sym word) method)) top
+          (known-method (p .after .table) here word)
+          ∙ ap popped (g .goes ∙ kids-end text k top stop stop (g .there) (omega arith))
+          ∙ popped-back aMethod stop b (whole .after .table) (row-few at here) (g .done .early r (omega arith) ∙ q .early r (omega arith) ∙ flag-same w₁ r (s .row) (p .after .table .room) (row-few at here) (b .few));
+      done = whole;
+    }
       where
         stop : ℕ
         stop = r + suc (lenSs bd)
+
+        top : ScopeStack
+        top = method-scope bd r
 
         at : Table text rows num w
         at = h .table
@@ -182,7 +246,10 @@ module _ (text : Bytes) (rows : List Row) (num : Bytes → ℕ) where
         w₁ = cond (lacksSelf (l .params)) (putSlot w r 15) w
 
         w₂ : List ℕ
-        w₂ = opened text (pushed s aMethod r stop) r stop w₁
+        w₂ = putLink w₁ r (s .row)
+
+        w₃ : List ℕ
+        w₃ = opened text (topOf top) r stop w₂
 
         p : D us seen (selfFault n l c) w w₁ r (suc r)
         p = go (lacksSelf (l .params))
@@ -191,15 +258,24 @@ module _ (text : Bytes) (rows : List Row) (num : Bytes → ℕ) where
             go true = done-fault h (selfless n l c) refl row (omega arith) (omega arith) (omega arith) (omega (arith, b .room))
             go false = head h (omega arith)
 
-        q : Entry num r stop (l .params) w₁ w₂
-        q = entry-method (p .after .words) (p .after .low)
-            (opened-method (pushed s aMethod r stop) refl (λ i. omega arith) (p .after .table) here word some (omega (arith, b .room, at .few)) stop)
+        p′ : D us seen (selfFault n l c) w w₂ r (suc r)
+        p′ = done-link (s .row) (omega (arith, b .room)) p
 
-        inside : At text rows num noOwnNames (pushed s aMethod r stop) [] methodEnv (l .params ++ us) (seenAfter seen (selfFault n l c)) w₂ (suc r)
-        inside = enter b noOwnNames methodEnv aMethod p q m refl refl none none (λ _ x. refl)
+        q : Entry num r stop (l .params) w₂ w₃
+        q = entry-method (p′ .after .words) (p′ .after .low)
+            (opened-method (topOf top) refl (λ i. omega arith) (p′ .after .table) here word some (omega (arith, b .room, at .few)) stop)
+
+        inside : At text rows num noOwnNames (topOf top) [] methodEnv (l .params ++ us) (seenAfter seen (selfFault n l c)) w₃ (suc r)
+        inside = enter b noOwnNames methodEnv aMethod p′ q m refl refl none none (λ _ x. refl)
           where
             none : {A : Type 0} → inMethod ≡ inDef → A
             none i = absurd (omega (arith, ap homeNumber i))
+
+        g : Looped text rows num noOwnNames (topOf top) methodEnv (kids text k top stop) vs (seenAfter seen (selfFault n l c)) gs w₃ (suc r) stop
+        g = rest w₃ inside
+
+        whole : D us seen (selfFault n l c ++ gs) w (g .there) r stop
+        whole = nested b h p′ q refl (record { outer = refl; inner = refl; params = refl }) (g .done) m
 
     -- ---- attributes are stepped over
     attrs-over : (ats : Attrs) (r stop : ℕ) {w : List ℕ} → Table text rows num w → Here rows r (rowsAs ats) → WordedAs ats → r + lenAs ats ≤ stop
@@ -208,8 +284,7 @@ module _ (text : Bytes) (rows : List Row) (num : Bytes → ℕ) where
     attrs-over (acons g x ats) r stop {w} t here d l =
         let c : kindAt w r ≡ 15 = row-kind t here ∙ d .0 in
         let e : suc r + lenE x + lenAs ats ≡ r + suc (lenE x + lenAs ats) = omega arith in
-        line-stmt text k s stop r w (omega arith) (suc r + lenE x) (row-after t here ∙ omega arith) (omega arith)
-        ∙ ap (kids text k s stop (suc r + lenE x)) (at-attr text k s r w (row-few t here) c)
+        line-stmt text k s stop r w (omega arith) (suc r + lenE x) (row-after t here ∙ omega arith) (omega arith) w (at-attr text k s r w (row-few t here) c)
         ∙ attrs-over ats (suc r + lenE x) stop t (here-past (sized-e x) (rowsAs ats) (here-tail here)) (d .1 .1) (omega arith)
         ∙ ap (λ i. kids text k s stop i w) e
 
@@ -218,7 +293,7 @@ module _ (text : Bytes) (rows : List Row) (num : Bytes → ℕ) where
         → r + lenS (class l ms ats) ≤ s .end → R vs seen w r
         → ((z : List ℕ) → v .home ≡ inModule → R (l .name ∷ vs) seen z (suc r)
         → L (r + lenS (class l ms ats)) (l .name ∷ vs) seen fs z (suc r) (suc r + lenMs ms))
-        → D (l .name ∷ vs) seen (inClasses (v .home) fs) w (walkStmt (suc k) text s r w) r (r + lenS (class l ms ats))
+        → C (walkStmt (suc k) text r (walk s w)) (l .name ∷ vs) seen (inClasses (v .home) fs) w r (r + lenS (class l ms ats))
     class-done l ms ats r {vs} {seen} {fs} {w} here d m h rest = go (v .home) refl
       where
         stop : ℕ
@@ -228,38 +303,40 @@ module _ (text : Bytes) (rows : List Row) (num : Bytes → ℕ) where
         at = h .table
 
         w₁ : List ℕ
-        w₁ = defined s w (num (l .name .bytes))
+        w₁ = defined (topOf s) w (num (l .name .bytes))
 
         named : (e : ℕ) → r ≤ e → e ≤ stop → D (l .name ∷ vs) seen [] w w₁ r e
-        named e p q = done-bind h (l .name) (b .flat .inner) (omega (arith, b .room, at .few)) (row-small at here (d .1 .0)) p (omega (arith, b .room))
+        named e p q = done-bind h (l .name) refl (omega (arith, b .room, at .few)) (row-small at here (d .1 .0)) p (omega (arith, b .room))
 
         -- the test for the module
-        walks : {hm : Home} → v .home ≡ hm → walkStmt (suc k) text s r w ≡ cond (eqb (homeNumber hm) module′) (kids text k s stop (suc r) w₁) w₁
+        walks : {hm : Home} → v .home ≡ hm → walkStmt (suc k) text r (walk s w) ≡ cond (eqb (homeNumber hm) module′) (kids text k s stop (suc r) w₁) (walk s w₁)
         walks e =
             at-class text k s r w (row-few at here) stop (row-after at here) (row-kind at here ∙ d .0) (num (l .name .bytes)) (row-number at here (d .1 .0))
-            ∙ ap (λ n. cond (eqb n module′) (kids text k s stop (suc r) w₁) w₁) (h .home ∙ ap homeNumber e)
+            ∙ ap (λ n. cond (eqb n module′) (kids text k s stop (suc r) w₁) (walk s w₁)) (h .home ∙ ap homeNumber e)
 
-        go : (hm : Home) → v .home ≡ hm → D (l .name ∷ vs) seen (inClasses hm fs) w (walkStmt (suc k) text s r w) r stop
-        go inDef e = subst (λ z. D (l .name ∷ vs) seen [] w z r stop) (sym (walks e)) (named stop (omega arith) (omega arith))
-        go inMethod e = subst (λ z. D (l .name ∷ vs) seen [] w z r stop) (sym (walks e)) (named stop (omega arith) (omega arith))
+        go : (hm : Home) → v .home ≡ hm → C (walkStmt (suc k) text r (walk s w)) (l .name ∷ vs) seen (inClasses hm fs) w r stop
+        go inDef e = record { there = w₁; goes = walks e; done = named stop (omega arith) (omega arith) }
+        go inMethod e = record { there = w₁; goes = walks e; done = named stop (omega arith) (omega arith) }
         go inModule e =
             let top : D (l .name ∷ vs) seen [] w w₁ r (suc r) = named (suc r) (omega arith) (omega arith) in
             let h₁ : R (l .name ∷ vs) seen w₁ (suc r) = top .after in
             let ways : L stop (l .name ∷ vs) seen fs w₁ (suc r) (suc r + lenMs ms) = rest w₁ e h₁ in
             let h₂ : R (l .name ∷ vs) (seenAfter seen fs) (ways .there) (suc r + lenMs ms) = ways .done .after in
-            let over : kids text k s stop (suc r + lenMs ms) (ways .there) ≡ ways .there =
+            let over : kids text k s stop (suc r + lenMs ms) (ways .there) ≡ walk s (ways .there) =
             attrs-over ats (suc r + lenMs ms) stop (h₂ .table) (here-past (sized-ms ms) (rowsAs ats) (here-tail here)) (d .1 .1 .1) (omega arith)
-            ∙ rows-end afterRow (walkLine k text s) (suc r + lenMs ms + lenAs ats) stop (ways .there) (omega arith) in
-            subst (λ z. D (l .name ∷ vs) seen fs w z r stop) (sym (walks e ∙ ways .goes ∙ over))
-            (done-to refl (append-nil fs) (done-then top (done-then (ways .done)
-            (done-skip h₂ (omega arith) (omega (arith, b .room))))))
+            ∙ kids-end text k s stop (suc r + lenMs ms + lenAs ats) (ways .there) (omega arith) in
+            record {
+              there = ways .there;
+              goes = walks e ∙ ways .goes ∙ over;
+              done = done-to refl (append-nil fs) (done-then top (done-then (ways .done) (done-skip h₂ (omega arith) (omega (arith, b .room)))));
+            }
 
   -- ---- statements
   mutual
-    stmt : (t : Stmt) (k r n : ℕ) {own : OwnNames} {s : ScopeStack} {v : Env} (b : Block rows own s v) {st : State} {seen : List Fault} {w : List ℕ}
-        → Spans (lenS t) (suc k) r n (s .end) → Here rows r (rowsS t) → WordedS t → At text rows num own s [] v (st .view) seen w r
+    stmt : (t : Stmt) (k r n : ℕ) {own : OwnNames} {s : ScopeStack} {v : Env} (b : Block text rows num own s v) {st : State} {seen : List Fault} {w : List ℕ}
+        → Spans (lenS t) (suc k) r n (s .end) → Here rows r (rowsS t) → WordedS t → At text rows num own (topOf s) [] v (st .view) seen w r
         → (v .home ≡ inDef → Assigns (own .notes) (st .assigned) (notesS t r) r (r + lenS t)) → (v .home ≡ inDef → ToldS rows own t r)
-        → Done text rows num own s v (afterS t st .view) seen (rawS t n [] v st) w (walkStmt (suc k) text s r w) r (r + lenS t)
+        → Comes text rows num own s v (walkStmt (suc k) text r (walk s w)) (afterS t st .view) seen (rawS t n [] v st) w r (r + lenS t)
     stmt (simple l es) k r n b {st} f here d h by told =
         let top = head b k h (omega arith) in
         plain-done b k l (lenEs es) (rowsEs es) r (simple-test plain refl (d .0)) here h top (omega arith)
@@ -273,14 +350,17 @@ module _ (text : Bytes) (rows : List Row) (num : Bytes → ℕ) where
         let left : Here rows (suc r) (rowsE e) = here-left (rowsE e) (rowsE t) (here-tail here) in
         let val = expr-done b k e (suc r) (suc n) st (omega arith) left (d .1 .0) h₁ (λ i. assign-still l e t (by i)) (λ i z u y. told i z (omega arith) (omega arith)) in
         let h₂ = val .after in
-        subst (λ u. Done text rows num own s v (afterT t st .view) seen (rawE e (suc n) value [] v st ++ rawT t (suc n + lenE e) [] v st) w u r stop)
-        (sym (at-assign text k s r w (row-few at here) stop (row-after at here) (row-kind at here ∙ d .0) (suc r + lenE e) (after-E at e left)))
-        (done-then top (done-then val (looped-end
-        (λ u. rows-end nextTarget (targetAt (walkExpr k text false s) s) stop stop u (omega arith))
-        (looped-to (omega arith) refl
-        (target (b .flat) (b .room) k stop (f .inside) t (suc r + lenE e) (suc n + lenE e) (omega arith)
-        (here-past (sized-e e) (rowsE t) (here-tail here)) (d .1 .1) h₂ (λ i. assign-target l e t (by i))
-        (λ i z u y. told i z (omega arith) (omega arith)))))))
+        record {
+          there = rowsTo nextTarget (targetAt (walkExpr k text false (topOf s)) (topOf s)) (suc r + lenE e) stop (walkExpr k text false (topOf s) (suc r) w);
+          goes = at-assign text k s r w (row-few at here) stop (row-after at here) (row-kind at here ∙ d .0) (suc r + lenE e) (after-E at e left);
+          done =
+              done-then top (done-then val (looped-end
+              (λ u. rows-end nextTarget (targetAt (walkExpr k text false (topOf s)) (topOf s)) stop stop u (omega arith))
+              (looped-to (omega arith) refl
+              (target (b .flat) (b .room) k stop (f .inside) t (suc r + lenE e) (suc n + lenE e) (omega arith)
+              (here-past (sized-e e) (rowsE t) (here-tail here)) (d .1 .1) h₂ (λ i. assign-target l e t (by i))
+              (λ i z u y. told i z (omega arith) (omega arith))))));
+        }
     stmt (block l e bd) k r n b {st} f here d h by told =
         test-done b k l e (lenE e + lenSs bd) (rowsSs bd) r n st (block-test plain refl (d .0)) f (omega arith) here (d .1 .0) h
         (λ i. block-still l e bd (by i)) (λ i. told i .0)
@@ -294,14 +374,15 @@ module _ (text : Bytes) (rows : List Row) (num : Bytes → ℕ) where
         test-done b k l e below (rowsSs bd ++ (rowsSs ks ++ rowsSs es)) r n st (ap plain (d .0)) f (omega arith) here (d .1 .0) h
         (λ i. choice-still l e bd ks es st (by i)) (λ i. told i .0)
         (λ u h.
-        let one = stmts bd k (suc r + lenE e) (suc n + lenE e) (r + suc below) b (omega arith) (f .inside)
-        (here-left (rowsSs bd) (rowsSs ks ++ rowsSs es) rest) (d .1 .1 .0) h (λ i. choice-body l e bd ks es st (by i)) (λ i. told i .1 .0) in
-        let h₁ = (one .done .after) in
-        let two = stmts ks k (suc r + lenE e + lenSs bd) (suc n + lenE e + lenSs bd) (r + suc below) b (omega arith) (f .inside)
-        (here-left (rowsSs ks) (rowsSs es) last) (d .1 .1 .1 .0) h₁ (λ i. choice-elifs l e bd ks es st (by i)) (λ i. told i .1 .1 .0) in
-        looped-to (omega arith) refl (looped-then (one .goes) (one .done) (looped-then (two .goes) (two .done)
-        (stmts es k (suc r + lenE e + lenSs bd + lenSs ks) (suc n + lenE e + lenSs bd + lenSs ks) (r + suc below) b (omega arith) (f .inside)
-        (here-past (sized-ss ks) (rowsSs es) last) (d .1 .1 .1 .1) (two .done .after) (λ i. choice-else l e bd ks es st (by i)) (λ i. told i .1 .1 .1)))))
+        looped-to (omega arith) refl (looped-on b k (r + suc below)
+        (stmts bd k (suc r + lenE e) (suc n + lenE e) (r + suc below) b (omega arith) (f .inside)
+        (here-left (rowsSs bd) (rowsSs ks ++ rowsSs es) rest) (d .1 .1 .0) h (λ i. choice-body l e bd ks es st (by i)) (λ i. told i .1 .0))
+        (λ z h₁. looped-on b k (r + suc below)
+        (stmts ks k (suc r + lenE e + lenSs bd) (suc n + lenE e + lenSs bd) (r + suc below) b (omega arith) (f .inside)
+        (here-left (rowsSs ks) (rowsSs es) last) (d .1 .1 .1 .0) h₁ (λ i. choice-elifs l e bd ks es st (by i)) (λ i. told i .1 .1 .0))
+        (λ z₂ h₂.
+        stmts es k (suc r + lenE e + lenSs bd + lenSs ks) (suc n + lenE e + lenSs bd + lenSs ks) (r + suc below) b (omega arith) (f .inside)
+        (here-past (sized-ss ks) (rowsSs es) last) (d .1 .1 .1 .1) h₂ (λ i. choice-else l e bd ks es st (by i)) (λ i. told i .1 .1 .1)))))
     stmt (for l e bd) k r n {own} {s} {v} b {st} {seen} {w} f here d h by told =
         let stop : ℕ = r + suc (lenE e + lenSs bd) in
         let at : Table text rows num w = h .table in
@@ -310,45 +391,42 @@ module _ (text : Bytes) (rows : List Row) (num : Bytes → ℕ) where
         let left : Here rows (suc r) (rowsE e) = here-left (rowsE e) (rowsSs bd) (here-tail here) in
         let val = expr-done b k e (suc r) (suc n) st (omega arith) left (d .1 .1 .0) h₁ (λ i. for-still l e bd (by i)) (λ i z u y. told i .0 z (omega arith) y) in
         let h₂ = val .after in
-        let name = done-bind h₂ {e = suc r + lenE e} (l .name) (b .flat .inner) (omega (arith, b .room, at .few)) (row-small at here (d .1 .0)) (omega arith) (omega (arith, b .room)) in
-        subst (λ u. Done text rows num own s v (afterSs bd (assigning (l .name) st) .view) seen (rawE e (suc n) value [] v st ++ rawSs bd (suc n + lenE e) [] v (assigning (l .name) st)) w u r stop)
-        (sym (at-for text k s r w (row-few at here) stop (row-after at here) (row-kind at here ∙ d .0) (suc r + lenE e) (after-E at e left) (num (l .name .bytes)) (row-number at here (d .1 .0))))
-        (done-then top (done-then val (done-then name (looped-end
-        (λ u. rows-end afterRow (walkLine k text s) stop stop u (omega arith))
+        let name = done-bind h₂ {e = suc r + lenE e} (l .name) refl (omega (arith, b .room, at .few)) (row-small at here (d .1 .0)) (omega arith) (omega (arith, b .room)) in
+        let way = at-for text k s r w (row-few at here) stop (row-after at here) (row-kind at here ∙ d .0) (suc r + lenE e) (after-E at e left) (num (l .name .bytes)) (row-number at here (d .1 .0)) in
+        comes-then top (comes-then val (ended b k way name
         (looped-to (omega arith) refl
         (stmts bd k (suc r + lenE e) (suc n + lenE e) stop b (omega arith) (f .inside)
-        (here-past (sized-e e) (rowsSs bd) (here-tail here)) (d .1 .1 .1) (name .after) (λ i. for-body l e bd (by i)) (λ i. told i .1)))))))
+        (here-past (sized-e e) (rowsSs bd) (here-tail here)) (d .1 .1 .1) (name .after) (λ i. for-body l e bd (by i)) (λ i. told i .1)))))
     stmt (def l bd) k r n {s = s} b {st} f here d h by told =
         def-done b k l bd r here d (f .inside) h
         (λ u h told. looped-to (omega arith) refl
-        (stmts bd k (suc r) (suc n) (r + lenS (def l bd)) (def-block b k l bd r u (f .inside)) (omega arith) (omega arith)
+        (stmts bd k (suc r) (suc n) (r + lenS (def l bd)) (def-block b k l bd r u here (d .0) (f .inside) (h .table .few)) (omega arith) (omega arith)
         (here-tail here) (d .1 .1 .1) h (λ _. def-body l bd r (suc r + lenSs bd) (omega (arith, b .room, h .table .few))) (λ _. told)))
     stmt (class l ms ats) k r n b {st} f here d h by told =
         class-done b k l ms ats r here d (f .inside) h
         (λ u i h. methods ms k (suc r) (suc n) (r + lenS (class l ms ats)) l b (naming (l .name) st) (omega arith) (f .inside) i (here-left (rowsMs ms) (rowsAs ats) (here-tail here)) (d .1 .1 .0) h)
 
-    pub stmts : (ts : Stmts) (k r n stop : ℕ) {own : OwnNames} {s : ScopeStack} {v : Env} (b : Block rows own s v) {st : State} {seen : List Fault} {w : List ℕ}
-        → Spans (lenSs ts) k r n stop → stop ≤ s .end → Here rows r (rowsSs ts) → WordedSs ts → At text rows num own s [] v (st .view) seen w r
+    pub stmts : (ts : Stmts) (k r n stop : ℕ) {own : OwnNames} {s : ScopeStack} {v : Env} (b : Block text rows num own s v) {st : State} {seen : List Fault} {w : List ℕ}
+        → Spans (lenSs ts) k r n stop → stop ≤ s .end → Here rows r (rowsSs ts) → WordedSs ts → At text rows num own (topOf s) [] v (st .view) seen w r
         → (v .home ≡ inDef → Assigns (own .notes) (st .assigned) (notesSs ts r) r (r + lenSs ts)) → (v .home ≡ inDef → ToldSs rows own ts r)
-        → Looped text rows num own s v (kids text k s stop) (afterSs ts st .view) seen (rawSs ts n [] v st) w r (r + lenSs ts)
+        → Looped text rows num own (topOf s) v (kids text k s stop) (afterSs ts st .view) seen (rawSs ts n [] v st) w r (r + lenSs ts)
     stmts snil k r n stop {s = s} b {st} {w = w} f m here d h by told =
         let e : r ≡ r + 0 = omega arith in
         looped-one (ap (λ i. kids text k s stop i w) e) (done-skip h (omega arith) (omega (arith, b .room)))
     stmts (scons t ts) k r n stop {own} {s} {v} b {st} {seen} {w} f m here d h by told =
         let some : 0 < lenS t = some-stmt t in
         let less : suc (k - 1) ≡ k = omega arith in
-        let first : Done text rows num own s v (afterS t st .view) seen (rawS t n [] v st) w (walkStmt k text s r w) r (r + lenS t) =
-        subst (λ i. Done text rows num own s v (afterS t st .view) seen (rawS t n [] v st) w (walkStmt i text s r w) r (r + lenS t)) less
-        (stmt t (k - 1) r n b (omega arith) (here-left (rowsS t) (rowsSs ts) here) (d .0) h (λ i. stmts-first t ts (by i)) (λ i. told i .0)) in
-        looped-to (omega arith) refl (looped-then
-        (line-stmt text k s stop r w (omega arith) (r + lenS t) (after-S (h .table) t (here-left (rowsS t) (rowsSs ts) here)) (stmt-kind (h .table) t (here-left (rowsS t) (rowsSs ts) here) (d .0)))
-        first
-        (stmts ts k (r + lenS t) (n + lenS t) stop b (omega arith) m (here-past (sized-s t) (rowsSs ts) here) (d .1)
-        (first .after) (λ i. stmts-rest t ts st (by i)) (λ i. told i .1)))
+        looped-to (omega arith) refl (looped-stmt b k
+        (subst (λ i. Comes text rows num own s v (walkStmt i text r (walk s w)) (afterS t st .view) seen (rawS t n [] v st) w r (r + lenS t)) less
+        (stmt t (k - 1) r n b (omega arith) (here-left (rowsS t) (rowsSs ts) here) (d .0) h (λ i. stmts-first t ts (by i)) (λ i. told i .0)))
+        (omega arith) (after-S (h .table) t (here-left (rowsS t) (rowsSs ts) here)) (stmt-kind (h .table) t (here-left (rowsS t) (rowsSs ts) here) (d .0))
+        (λ z h₁.
+        stmts ts k (r + lenS t) (n + lenS t) stop b (omega arith) m (here-past (sized-s t) (rowsSs ts) here) (d .1)
+        h₁ (λ i. stmts-rest t ts st (by i)) (λ i. told i .1)))
 
-    methods : (ms : Methods) (k r n stop : ℕ) (c : Line) {own : OwnNames} {s : ScopeStack} {v : Env} (b : Block rows own s v) (st : State) {seen : List Fault} {w : List ℕ}
-        → Spans (lenMs ms) k r n stop → stop ≤ s .end → v .home ≡ inModule → Here rows r (rowsMs ms) → WordedMs ms → At text rows num own s [] v (st .view) seen w r
-        → Looped text rows num own s v (kids text k s stop) (st .view) seen (rawMs ms n c st) w r (r + lenMs ms)
+    methods : (ms : Methods) (k r n stop : ℕ) (c : Line) {own : OwnNames} {s : ScopeStack} {v : Env} (b : Block text rows num own s v) (st : State) {seen : List Fault} {w : List ℕ}
+        → Spans (lenMs ms) k r n stop → stop ≤ s .end → v .home ≡ inModule → Here rows r (rowsMs ms) → WordedMs ms → At text rows num own (topOf s) [] v (st .view) seen w r
+        → Looped text rows num own (topOf s) v (kids text k s stop) (st .view) seen (rawMs ms n c st) w r (r + lenMs ms)
     methods mnil k r n stop c {s = s} b st {w = w} f m i here d h =
         let e : r ≡ r + 0 = omega arith in
         looped-one (ap (λ i. kids text k s stop i w) e) (done-skip h (omega arith) (omega (arith, b .room)))
@@ -358,15 +436,14 @@ module _ (text : Bytes) (rows : List Row) (num : Bytes → ℕ) where
         let e : r + suc (lenSs bd) + lenMs ms ≡ r + suc (lenSs bd + lenMs ms) = omega arith in
         let a : suc r + lenSs bd ≡ r + suc (lenSs bd) = omega arith in
         let body : List Fault = rawSs bd (suc n) [] methodEnv (entered (g .params) st) in
-        let first : Done text rows num own s v (st .view) seen (selfFault n g c ++ body) w (walkStmt k text s r w) r (r + suc (lenSs bd)) =
-        subst (λ i. Done text rows num own s v (st .view) seen (selfFault n g c ++ body) w (walkStmt i text s r w) r (r + suc (lenSs bd))) less
+        looped-to e (append-assoc (selfFault n g c) body (rawMs ms (suc n + lenSs bd) c st))
+        (looped-stmt b k
+        (subst (λ i. Comes text rows num own s v (walkStmt i text r (walk s w)) (st .view) seen (selfFault n g c ++ body) w r (r + suc (lenSs bd))) less
         (method-done b (k - 1) g c bd (rowsSs bd ++ rowsMs ms) r n u (f .line) here (d .0) (d .1 .1 .0) i h
         (λ z h. looped-to a refl
-        (stmts bd (k - 1) (suc r) (suc n) (r + suc (lenSs bd)) (method-block b (k - 1) bd r u) (omega arith) (omega arith)
-        (here-left (rowsSs bd) (rowsMs ms) (here-tail here)) (d .1 .1 .1 .0) h (λ y. absurd (omega (arith, ap homeNumber y))) (λ y. absurd (omega (arith, ap homeNumber y)))))) in
-        looped-to e (append-assoc (selfFault n g c) body (rawMs ms (suc n + lenSs bd) c st))
-        (looped-then
-        (line-stmt text k s stop r w (omega arith) (r + suc (lenSs bd)) (row-after (h .table) here) (omega (arith, row-kind (h .table) here, d .0)))
-        first
-        (methods ms k (r + suc (lenSs bd)) (suc n + lenSs bd) stop c b st (omega arith) m i
-        (subst (λ j. Here rows j (rowsMs ms)) a (here-past (sized-ss bd) (rowsMs ms) (here-tail here))) (d .1 .1 .1 .1) (first .after)))
+        (stmts bd (k - 1) (suc r) (suc n) (r + suc (lenSs bd)) (method-block b (k - 1) g bd (rowsSs bd ++ rowsMs ms) r here (d .0) u (h .table .few)) (omega arith) (omega arith)
+        (here-left (rowsSs bd) (rowsMs ms) (here-tail here)) (d .1 .1 .1 .0) h (λ y. absurd (omega (arith, ap homeNumber y))) (λ y. absurd (omega (arith, ap homeNumber y)))))))
+        (omega arith) (row-after (h .table) here) (omega (arith, row-kind (h .table) here, d .0))
+        (λ z h₁.
+        methods ms k (r + suc (lenSs bd)) (suc n + lenSs bd) stop c b st (omega arith) m i
+        (subst (λ j. Here rows j (rowsMs ms)) a (here-past (sized-ss bd) (rowsMs ms) (here-tail here))) (d .1 .1 .1 .1) h₁))

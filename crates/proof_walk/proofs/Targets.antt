@@ -20,8 +20,7 @@ use Rattle.work_rows.proofs.Lengths.{sized-e}
 use Rattle.work_marks.specs.MarksModel.{putSlot}
 use Rattle.work_rows.specs.LoopsModel.{rowsTo}
 use Rattle.work_rows.proofs.Loops.{rows-more}
-use Rattle.walk_scopes.specs.ScopesModel.{defined}
-use Rattle.walk_scopes.specs.declared.ScopeStack.{ScopeStack}
+use Rattle.walk_scopes.specs.ScopesModel.{Scope, defined}
 use Rattle.read_row.specs.Worded.{AccessWord, index, get, WordedE, WordedEs}
 use Rattle.walk_tree.specs.WalkModel.{nextTarget, targetAt, walkExpr}
 use Rattle.proof_walk.specs.Table.{Here}
@@ -46,7 +45,7 @@ next-on w i = go (eqb (kindAt w i) 24)
 abbrev noTarget : ℕ → Bool
 noTarget k = not (eqb k 17) && (not (eqb k 24) && (not (eqb k 20) && not (eqb k 22)))
 
-module _ (value : ℕ → List ℕ → List ℕ) (s : ScopeStack) (i : ℕ) (w : List ℕ) where
+module _ (value : ℕ → List ℕ → List ℕ) (s : Scope) (i : ℕ) (w : List ℕ) where
   -- what the loop does at row i, and where it goes on
   record Turn (z : List ℕ) (j : ℕ) : Type 0 where
     does : targetAt value s i w ≡ z
@@ -78,16 +77,16 @@ module _ (value : ℕ → List ℕ → List ℕ) (s : ScopeStack) (i : ℕ) (w :
       go false false false false p q y z n = record { does = rw (p, q, y, z) refl; next = rw q refl }
 
 -- ---- the loop
-abbrev pub turns : Bytes → ℕ → ScopeStack → ℕ → ℕ → List ℕ → List ℕ
+abbrev pub turns : Bytes → ℕ → Scope → ℕ → ℕ → List ℕ → List ℕ
 turns text k s stop r w = rowsTo nextTarget (targetAt (walkExpr k text false s) s) r stop w
 
 -- one row
-turn : (text : Bytes) (k : ℕ) (s : ScopeStack) (stop : ℕ) {r i j : ℕ} {w y z : List ℕ} → r < stop → Turn (walkExpr k text false s) s r w y i → y ≡ z → i ≡ j
+turn : (text : Bytes) (k : ℕ) (s : Scope) (stop : ℕ) {r i j : ℕ} {w y z : List ℕ} → r < stop → Turn (walkExpr k text false s) s r w y i → y ≡ z → i ≡ j
     → turns text k s stop r w ≡ turns text k s stop j z
 turn text k s stop {r} {w = w} l t p q =
     rows-more nextTarget (targetAt (walkExpr k text false s) s) next-on r stop w l ∙ ap₂ (turns text k s stop) (t .next ∙ q) (t .does ∙ p)
 
-module _ {text : Bytes} {rows : List Row} {num : Bytes → ℕ} {own : OwnNames} {s : ScopeStack} {v : Env} (flat : Flat s v) (room : s .end ≤ length rows) (k stop : ℕ) (end : stop ≤ s .end) where
+module _ {text : Bytes} {rows : List Row} {num : Bytes → ℕ} {own : OwnNames} {s : Scope} {v : Env} (flat : Flat s v) (room : s .end ≤ length rows) (k stop : ℕ) (end : stop ≤ s .end) where
   -- a line of another kind
   refused : (l : Line) (below : ℕ) (part : List Row) (r n : ℕ) {vs : List Part} {seen : List Fault} {w : List ℕ} → n ≡ suc (suc r) → r + suc below ≤ stop → Here rows r (row l below ∷ part)
       → noTarget (l .word) ≡ true → At text rows num own s [] v vs seen w r

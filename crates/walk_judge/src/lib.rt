@@ -2,6 +2,7 @@
 use spec_faults::fault_kind;
 use walk_scopes::HOME_DEF;
 use walk_scopes::HOME_MODULE;
+use walk_scopes::Lambdas;
 use walk_scopes::ScopeStack;
 use work_marks::ASSIGNED;
 use work_marks::NOT_OWN;
@@ -11,12 +12,13 @@ ghost use Prim.Native.Nat.{_<_};
 ghost use Rattle.spec_faults.specs.Faults.{lacksSelf};
 ghost use Rattle.read_row.specs.RowModel.{paramsOf};
 ghost use Rattle.walk_judge.specs.JudgeModel.{unboundKind, undefinedKind, faulted, flagIn, readOf};
+ghost use Rattle.walk_scopes.specs.ScopesModel.{scopeOf};
 
 // The kind of a fault of an own name that is not assigned.
-fn unbound_kind(s: ScopeStack, called: bool) -> usize
-    ensures { λ r. ⌜ r ≡ unboundKind s called ⌝ }
+fn unbound_kind(l: Lambdas, called: bool) -> usize
+    ensures { λ r. ⌜ r ≡ unboundKind (l .outer) called ⌝ }
 {
-    if s.outer != 0 {
+    if l.outer != 0 {
         return fault_kind::UNBOUND_CAPTURE;
     }
     if called {
@@ -27,10 +29,10 @@ fn unbound_kind(s: ScopeStack, called: bool) -> usize
 }
 
 // The kind of a fault of a name that is not in view.
-fn undefined_kind(s: ScopeStack, called: bool) -> usize
-    ensures { λ r. ⌜ r ≡ undefinedKind s called ⌝ }
+fn undefined_kind(s: ScopeStack, l: Lambdas, called: bool) -> usize
+    ensures { λ r. ⌜ r ≡ undefinedKind (s .home) (l .outer) called ⌝ }
 {
-    if s.outer != 0 {
+    if l.outer != 0 {
         if s.home == HOME_MODULE {
             return fault_kind::UNDEFINED_CAPTURE;
         }
@@ -43,20 +45,20 @@ fn undefined_kind(s: ScopeStack, called: bool) -> usize
 }
 
 // Row i has a fault of this kind. A name that a lambda is blamed for counts as its parameter from there on: it is blamed once.
-fn fault(work: &mut [u32], s: ScopeStack, name: usize, i: usize, kind: usize)
+fn fault(work: &mut [u32], l: Lambdas, name: usize, i: usize, kind: usize)
     requires { ⌜ i < 4294967296 ⌝ }
-    ensures { λ _. ⌜ now (work .exit) ≡ faulted s name i kind (now (work .entry)) ⌝ }
+    ensures { λ _. ⌜ now (work .exit) ≡ faulted (l .outer) name i kind (now (work .entry)) ⌝ }
 {
     work_marks::put_slot(work, i, kind);
     if kind == fault_kind::UNDEFINED_CAPTURE || kind == fault_kind::UNBOUND_CAPTURE {
-        work_marks::raise_lambda(work, name, s.outer);
+        work_marks::raise_lambda(work, name, l.outer);
     }
 }
 
 // How the name of row i stands to the def that is its home; to another home it is no own name.
 fn flag_in(work: &[u32], s: ScopeStack, i: usize) -> usize
     requires { ⌜ i < 4294967296 ⌝ }
-    ensures { λ r. ⌜ r ≡ flagIn s (now (work .entry)) i ⌝ }
+    ensures { λ r. ⌜ r ≡ flagIn (s .home) (now (work .entry)) i ⌝ }
 {
     if s.home == HOME_DEF {
         return work_marks::flag(work, i);
@@ -65,9 +67,9 @@ fn flag_in(work: &[u32], s: ScopeStack, i: usize) -> usize
 }
 
 // Judges the read at row i, of a name.
-pub fn judge_read(work: &mut [u32], s: ScopeStack, called: bool, name: usize, i: usize)
+pub fn judge_read(work: &mut [u32], s: ScopeStack, l: Lambdas, called: bool, name: usize, i: usize)
     requires { ⌜ (i < 4294967296) × (name < 4294967296) ⌝ }
-    ensures { λ _. ⌜ now (work .exit) ≡ readOf s called name i (now (work .entry)) ⌝ }
+    ensures { λ _. ⌜ now (work .exit) ≡ readOf (scopeOf s l) called name i (now (work .entry)) ⌝ }
 {
     if i < work_marks::lambda_end(work, name) {
         return;
@@ -77,13 +79,13 @@ pub fn judge_read(work: &mut [u32], s: ScopeStack, called: bool, name: usize, i:
         return;
     }
     if flag == UNASSIGNED {
-        fault(work, s, name, i, unbound_kind(s, called));
+        fault(work, l, name, i, unbound_kind(l, called));
         return;
     }
-    if s.is_defined(work, name, i) {
+    if walk_scopes::is_defined(work, s, name, i) {
         return;
     }
-    fault(work, s, name, i, undefined_kind(s, called))
+    fault(work, l, name, i, undefined_kind(s, l, called))
 }
 
 // Whether the method at row i has no parameter, or another first one than `self`.

@@ -1,12 +1,12 @@
 // The walk over the rows of a tree: statements, lists of statements, expressions and lists of expressions call each other, and the number of
-// lines left falls at each call. Names are marked where they are bound, and the kind of a row's fault goes to its slot.
+// lines left falls at each call. Names are marked where they are bound, and the kind of a row's fault goes to its slot. Statements are handed the
+// stack of scopes and hand it back; expressions are handed it, with the lambdas around them, and hand back none.
 // `left` is the number of rows at the start, and one less at each level. The lines around a line are other rows, one a level: so a line
 // of a tree that was read is never met with none left. The test for 0 is there so that the walk ends on any numbers.
 use spec_faults::fault_kind;
 use spec_text::line_kind;
-use walk_scopes::HOME_DEF;
-use walk_scopes::HOME_METHOD;
 use walk_scopes::HOME_MODULE;
+use walk_scopes::Lambdas;
 use walk_scopes::ScopeStack;
 use work_rows::ROWS_MOST;
 ghost use mathlib.Core.Path.{_≡_};
@@ -14,7 +14,8 @@ ghost use mathlib.Core.Bool.{false};
 ghost use Prim.Native.Nat.{_<_, _≤_};
 ghost use lib.ListN.{length};
 ghost use Rattle.work_rows.specs.LoopsModel.{rowsTo};
-ghost use Rattle.walk_tree.specs.WalkModel.{nextTarget, targetAt, walkExpr, walkStmt, walkExprs, walkStmts, methodAt, blockAt, walkLine, walked};
+ghost use Rattle.walk_scopes.specs.ScopesModel.{scopeOf, topOf};
+ghost use Rattle.walk_tree.specs.WalkModel.{walk, nextTarget, targetAt, walkExpr, walkStmt, walkExprs, walkStmts, isBlock, methodAt, headAt, blockAt, walkLine, walkBody, walked};
 
 // The row of the next target.
 fn next_target(work: &[u32], i: usize) -> usize
@@ -29,14 +30,30 @@ fn next_target(work: &[u32], i: usize) -> usize
 
 // A row in target position.
 fn walk_target(text: &[u8], work: &mut [u32], left: usize, s: ScopeStack, i: usize)
-    requires { ⌜ (i ≤ 8192) × (s .block ≤ 4096) × (s .end ≤ 16384) ⌝ }
-    ensures { λ _. ⌜ now (work .exit) ≡ targetAt (walkExpr left (now (text .entry)) false s) s i (now (work .entry)) ⌝ }
+    requires { ⌜ i ≤ 8192 ⌝ }
+    ensures { λ _. ⌜ now (work .exit) ≡ targetAt (walkExpr left (now (text .entry)) false (topOf s)) (topOf s) i (now (work .entry)) ⌝ }
 {
     match work_rows::kind(work, i) {
-        line_kind::VAR => s.define(work, work_rows::number(work, i)),
+        line_kind::VAR => walk_scopes::define(work, s, work_rows::number(work, i)),
         line_kind::TUPLE => {}, // its children are targets
-        line_kind::INDEX => walk_exprs(text, work, left, s, i + 1, work_rows::after_row(work, i)),
-        line_kind::GET => walk_exprs(text, work, left, s, i + 1, work_rows::after_row(work, i)),
+        line_kind::INDEX => walk_exprs(
+            text,
+            work,
+            left,
+            s,
+            walk_scopes::no_lambdas(),
+            i + 1,
+            work_rows::after_row(work, i),
+        ),
+        line_kind::GET => walk_exprs(
+            text,
+            work,
+            left,
+            s,
+            walk_scopes::no_lambdas(),
+            i + 1,
+            work_rows::after_row(work, i),
+        ),
         _ => work_marks::put_slot(work, i, fault_kind::INVALID_TARGET),
     }
 }
@@ -50,8 +67,8 @@ fn walk_targets(
     first: usize,
     stop: usize,
 )
-    requires { ⌜ (stop ≤ 8192) × (s .block ≤ 4096) × (s .end ≤ 16384) ⌝ }
-    ensures { λ _. ⌜ now (work .exit) ≡ rowsTo nextTarget (targetAt (walkExpr left (now (text .entry)) false s) s) first stop (now (work .entry)) ⌝ }
+    requires { ⌜ stop ≤ 8192 ⌝ }
+    ensures { λ _. ⌜ now (work .exit) ≡ rowsTo nextTarget (targetAt (walkExpr left (now (text .entry)) false (topOf s)) (topOf s)) first stop (now (work .entry)) ⌝ }
 {
     let mut at = first;
     while at < stop {
@@ -62,9 +79,16 @@ fn walk_targets(
 }
 
 // An expression.
-fn walk_expr(text: &[u8], work: &mut [u32], left: usize, called: bool, s: ScopeStack, i: usize)
-    requires { ⌜ (s .block ≤ 4096) × (s .end ≤ 16384) ⌝ }
-    ensures { λ _. ⌜ now (work .exit) ≡ walkExpr left (now (text .entry)) called s i (now (work .entry)) ⌝ }
+fn walk_expr(
+    text: &[u8],
+    work: &mut [u32],
+    left: usize,
+    called: bool,
+    s: ScopeStack,
+    l: Lambdas,
+    i: usize,
+)
+    ensures { λ _. ⌜ now (work .exit) ≡ walkExpr left (now (text .entry)) called (scopeOf s l) i (now (work .entry)) ⌝ }
 {
     if left == 0 {
         return;
@@ -74,77 +98,104 @@ fn walk_expr(text: &[u8], work: &mut [u32], left: usize, called: bool, s: ScopeS
     }
     let stop = work_rows::after_row(work, i);
     match work_rows::kind(work, i) {
-        line_kind::VAR => walk_judge::judge_read(work, s, called, work_rows::number(work, i), i),
+        line_kind::VAR => walk_judge::judge_read(work, s, l, called, work_rows::number(work, i), i),
         line_kind::CALL => {
             let rest = work_rows::after_row(work, i + 1);
-            walk_expr(text, work, left - 1, true, s, i + 1);
-            walk_exprs(text, work, left - 1, s, rest, stop)
+            walk_expr(text, work, left - 1, true, s, l, i + 1);
+            walk_exprs(text, work, left - 1, s, l, rest, stop)
         }
         line_kind::LAMBDA => {
-            let inner = s.push_lambda(stop);
-            walk_blocks::enter_block(text, work, inner, i, stop);
-            walk_line(text, work, left - 1, inner, i + 1)
+            let inner = walk_scopes::within(l, stop);
+            walk_blocks::enter_block(text, work, s, inner, i, stop);
+            walk_line(text, work, left - 1, s, inner, i + 1)
         }
-        _ => walk_exprs(text, work, left - 1, s, i + 1, stop),
+        _ => walk_exprs(text, work, left - 1, s, l, i + 1, stop),
     }
 }
 
 // A list of expressions.
-fn walk_exprs(text: &[u8], work: &mut [u32], left: usize, s: ScopeStack, first: usize, stop: usize)
-    requires { ⌜ (stop ≤ 16384) × (s .block ≤ 4096) × (s .end ≤ 16384) ⌝ }
-    ensures { λ _. ⌜ now (work .exit) ≡ walkExprs left (now (text .entry)) s first stop (now (work .entry)) ⌝ }
+fn walk_exprs(
+    text: &[u8],
+    work: &mut [u32],
+    left: usize,
+    s: ScopeStack,
+    l: Lambdas,
+    first: usize,
+    stop: usize,
+)
+    requires { ⌜ stop ≤ 16384 ⌝ }
+    ensures { λ _. ⌜ now (work .exit) ≡ walkExprs left (now (text .entry)) (scopeOf s l) first stop (now (work .entry)) ⌝ }
 {
     let mut at = first;
     while at < stop {
         let next = work_rows::after_row(work, at);
-        walk_expr(text, work, left, false, s, at);
+        walk_expr(text, work, left, false, s, l, at);
         at = next;
     }
 }
 
 // A statement, or another line of a block that is no expression.
-fn walk_stmt(text: &[u8], work: &mut [u32], left: usize, s: ScopeStack, i: usize)
-    requires { ⌜ (s .block ≤ 4096) × (s .end ≤ 16384) ⌝ }
-    ensures { λ _. ⌜ now (work .exit) ≡ walkStmt left (now (text .entry)) s i (now (work .entry)) ⌝ }
+fn walk_stmt(text: &[u8], work: &mut [u32], left: usize, s: ScopeStack, i: usize) -> ScopeStack
+    ensures { λ r. ⌜ walk r (now (work .exit)) ≡ walkStmt left (now (text .entry)) i (walk s (now (work .entry))) ⌝ }
 {
     if left == 0 {
-        return;
+        return s;
     }
     if ROWS_MOST <= i {
-        return;
+        return s;
     }
     let stop = work_rows::after_row(work, i);
-    match work_rows::kind(work, i) {
-        line_kind::DEF => {
-            s.define(work, work_rows::number(work, i));
-            let inner = s.push(HOME_DEF, i, stop);
-            walk_block(text, work, left - 1, inner, i)
-        }
+    let kind = work_rows::kind(work, i);
+    if is_block(kind) {
+        return walk_block(text, work, left - 1, s, i, stop);
+    }
+    match kind {
         line_kind::ASSIGN => {
             let target = work_rows::after_row(work, i + 1);
-            walk_expr(text, work, left - 1, false, s, i + 1);
-            walk_targets(text, work, left - 1, s, target, stop)
+            walk_expr(
+                text,
+                work,
+                left - 1,
+                false,
+                s,
+                walk_scopes::no_lambdas(),
+                i + 1,
+            );
+            walk_targets(text, work, left - 1, s, target, stop);
+            s
         }
         line_kind::FOR => {
             let name = work_rows::number(work, i);
             let body = work_rows::after_row(work, i + 1);
-            walk_expr(text, work, left - 1, false, s, i + 1);
-            s.define(work, name);
+            walk_expr(
+                text,
+                work,
+                left - 1,
+                false,
+                s,
+                walk_scopes::no_lambdas(),
+                i + 1,
+            );
+            walk_scopes::define(work, s, name);
             walk_stmts(text, work, left - 1, s, body, stop)
         }
         line_kind::CLASS => {
-            s.define(work, work_rows::number(work, i));
-            if s.home == HOME_MODULE {
-                walk_stmts(text, work, left - 1, s, i + 1, stop);
+            walk_scopes::define(work, s, work_rows::number(work, i));
+            if s.home != HOME_MODULE {
+                return s;
             }
+            walk_stmts(text, work, left - 1, s, i + 1, stop)
         }
-        line_kind::METHOD => {
-            judge_method(text, work, i);
-            walk_block(text, work, left - 1, s.push(HOME_METHOD, i, stop), i)
-        }
-        line_kind::ATTR => {}
+        line_kind::ATTR => s,
         _ => walk_stmts(text, work, left - 1, s, i + 1, stop),
     }
+}
+
+// Whether a line of this kind has a block: a def or a method.
+fn is_block(kind: usize) -> bool
+    ensures { λ r. ⌜ r ≡ isBlock kind ⌝ }
+{
+    kind == line_kind::DEF || kind == line_kind::METHOD
 }
 
 // A method has to have `self` as its first parameter.
@@ -157,42 +208,73 @@ fn judge_method(text: &[u8], work: &mut [u32], i: usize)
     }
 }
 
-// The body of the def or method at row i.
-fn walk_block(text: &[u8], work: &mut [u32], left: usize, s: ScopeStack, i: usize)
-    requires { ⌜ (i ≤ 4096) × (s .block ≤ 4096) × (s .end ≤ 16384) ⌝ }
-    ensures { λ _. ⌜ now (work .exit) ≡ blockAt (walkLine left (now (text .entry))) (now (text .entry)) s i (now (work .entry)) ⌝ }
+// The row i of a def or a method: a def's name is bound, a method is judged.
+fn walk_head(text: &[u8], work: &mut [u32], s: ScopeStack, i: usize)
+    requires { ⌜ i < 4096 ⌝ }
+    ensures { λ _. ⌜ now (work .exit) ≡ headAt (now (text .entry)) (topOf s) i (now (work .entry)) ⌝ }
 {
-    walk_blocks::enter_block(text, work, s, i, s.end);
-    walk_stmts(text, work, left, s, i + 1, s.end)
+    if work_rows::kind(work, i) == line_kind::DEF {
+        walk_scopes::define(work, s, work_rows::number(work, i));
+        return;
+    }
+    judge_method(text, work, i)
 }
 
-// A line of either sort: the body of a lambda.
-fn walk_line(text: &[u8], work: &mut [u32], left: usize, s: ScopeStack, i: usize)
-    requires { ⌜ (s .block ≤ 4096) × (s .end ≤ 16384) ⌝ }
-    ensures { λ _. ⌜ now (work .exit) ≡ walkLine left (now (text .entry)) s i (now (work .entry)) ⌝ }
+// The def or the method at row i, up to the row stop: its block is a scope of its own.
+fn walk_block(
+    text: &[u8],
+    work: &mut [u32],
+    left: usize,
+    s: ScopeStack,
+    i: usize,
+    stop: usize,
+) -> ScopeStack
+    requires { ⌜ (i < 4096) × (stop ≤ 16384) ⌝ }
+    ensures { λ r. ⌜ walk r (now (work .exit)) ≡ blockAt (walkLine left (now (text .entry))) (now (text .entry)) i stop (walk s (now (work .entry))) ⌝ }
+{
+    walk_head(text, work, s, i);
+    let top = walk_scopes::push(work, s, i);
+    walk_blocks::enter_block(text, work, top, walk_scopes::no_lambdas(), i, stop);
+    let last = walk_stmts(text, work, left, top, i + 1, stop);
+    walk_scopes::pop(work, last)
+}
+
+// The body of a lambda, a line of either sort. A list of one statement: so lists are what `walk_stmt` is called from, and no other.
+fn walk_line(text: &[u8], work: &mut [u32], left: usize, s: ScopeStack, l: Lambdas, i: usize)
+    requires { ⌜ i < 16384 ⌝ }
+    ensures { λ _. ⌜ now (work .exit) ≡ walkBody left (now (text .entry)) (scopeOf s l) i (now (work .entry)) ⌝ }
 {
     if work_rows::kind(work, i) < line_kind::LIT {
-        walk_stmt(text, work, left, s, i)
+        let last = walk_stmts(text, work, left, s, i, i + 1);
     } else {
-        walk_expr(text, work, left, false, s, i)
+        walk_expr(text, work, left, false, s, l, i);
     }
 }
 
 // A list of statements, which may have expressions before them. Its test is its own, and not by `walk_line`: so it takes less stack.
-fn walk_stmts(text: &[u8], work: &mut [u32], left: usize, s: ScopeStack, first: usize, stop: usize)
-    requires { ⌜ (stop ≤ 16384) × (s .block ≤ 4096) × (s .end ≤ 16384) ⌝ }
-    ensures { λ _. ⌜ now (work .exit) ≡ walkStmts left (now (text .entry)) s first stop (now (work .entry)) ⌝ }
+fn walk_stmts(
+    text: &[u8],
+    work: &mut [u32],
+    left: usize,
+    s: ScopeStack,
+    first: usize,
+    stop: usize,
+) -> ScopeStack
+    requires { ⌜ stop ≤ 16384 ⌝ }
+    ensures { λ r. ⌜ walk r (now (work .exit)) ≡ walkStmts left (now (text .entry)) first stop (walk s (now (work .entry))) ⌝ }
 {
+    let mut t = s;
     let mut at = first;
     while at < stop {
         let next = work_rows::after_row(work, at);
         if work_rows::kind(work, at) < line_kind::LIT {
-            walk_stmt(text, work, left, s, at);
+            t = walk_stmt(text, work, left, t, at);
         } else {
-            walk_expr(text, work, left, false, s, at);
+            walk_expr(text, work, left, false, t, walk_scopes::no_lambdas(), at);
         }
         at = next;
     }
+    t
 }
 
 // Walks the tree of so many `global` lines and so many rows: afterwards the slot of each row has the kind of its fault, or 0.
@@ -202,5 +284,5 @@ pub fn walk(text: &[u8], work: &mut [u32], globals: usize, rows: usize)
 {
     let s = ScopeStack::new(rows);
     walk_given::bind_given(text, work, s, globals, rows);
-    walk_stmts(text, work, rows, s, globals, rows)
+    let last = walk_stmts(text, work, rows, s, globals, rows);
 }

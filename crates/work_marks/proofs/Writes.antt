@@ -221,7 +221,7 @@ module _ (w : List ℕ) (a v : ℕ) where
 
 -- a flag
 module _ (w : List ℕ) (i f : ℕ) where
-  pub flag-same : 16_384 ≤ length w → i < 4_096 → f < 4 → flagAt (putFlag w i f) i ≡ f
+  pub flag-same : 16_384 ≤ length w → i < 4_096 → f < 524_288 → flagAt (putFlag w i f) i ≡ f
   flag-same room l s = ap (λ x. x / 8_192) (getD-set-same w (stampBase + i) _ 0 (omega arith)) ∙ omega arith
 
   pub flag-other : (j : ℕ) → (j ≡ i → ⊥) → flagAt (putFlag w i f) j ≡ flagAt w j

@@ -5,6 +5,7 @@
 --   12288 + i   stamp                             the row from which the name i is assigned in the def whose own names are being gathered
 --               8192 * flag                       how the name of the `var` at row i stands to the def around: 0 none of its own names,
 --                                                 1 one that is assigned there, 2 one that is not
+--               8192 * link                       in its place, of the def or method at row i: the row of the scope around
 use Prim.Native.Nat.{ℕ, _+_, _*_, _/_, _%_}
 use mathlib.Core.Bool.{cond}
 use mathlib.Core.List.{List}
@@ -41,7 +42,7 @@ slotAt w i = getD w (headBase + i) 0 / 67_108_864
 unfoldable pub putSlot : List ℕ → ℕ → ℕ → List ℕ
 putSlot w i k = put w (headBase + i) (getD w (headBase + i) 0 % 67_108_864 + 67_108_864 * (k % 16))
 
--- ---- stamps and flags
+-- ---- stamps, flags and links
 abbrev pub stampBase : ℕ
 stampBase = 12_288
 
@@ -55,7 +56,14 @@ abbrev pub flagAt : List ℕ → ℕ → ℕ
 flagAt w i = getD w (stampBase + i) 0 / 8_192
 
 abbrev pub putFlag : List ℕ → ℕ → ℕ → List ℕ
-putFlag w i f = put w (stampBase + i) (getD w (stampBase + i) 0 % 8_192 + 8_192 * (f % 4))
+putFlag w i f = put w (stampBase + i) (getD w (stampBase + i) 0 % 8_192 + 8_192 * (f % 524_288))
+
+-- a link stands where a `var` has its flag
+abbrev pub linkAt : List ℕ → ℕ → ℕ
+linkAt w i = flagAt w i
+
+abbrev pub putLink : List ℕ → ℕ → ℕ → List ℕ
+putLink w i row = putFlag w i row
 
 -- a row that no read is at or after: bound, and never assigned
 abbrev pub never : ℕ

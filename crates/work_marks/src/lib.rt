@@ -5,7 +5,7 @@ use work_rows::ROWS_MOST;
 ghost use mathlib.Core.Path.{_≡_};
 ghost use Prim.Native.Nat.{_+_, _<_, _≤_};
 ghost use lib.ListN.{length};
-ghost use Rattle.work_marks.specs.MarksModel.{lambdaEnd, blockEnd, slotAt, stampAt, flagAt, putLambdaEnd, putBlockEnd, putSlot, putStamp, putFlag, unmarked, unstamped, raisedLambda, raisedBlock};
+ghost use Rattle.work_marks.specs.MarksModel.{lambdaEnd, blockEnd, slotAt, stampAt, flagAt, linkAt, putLambdaEnd, putBlockEnd, putSlot, putStamp, putFlag, putLink, unmarked, unstamped, raisedLambda, raisedBlock};
 
 // Where the stamps stand.
 const STAMP_BASE: usize = 12288;
@@ -25,7 +25,8 @@ pub const ASSIGNED: usize = 1;
 
 pub const UNASSIGNED: usize = 2;
 
-const FLAGS: usize = 4;
+// Above a stamp stand a flag or a link.
+const LINKS: usize = 524288;
 
 const SLOTS: usize = 67108864;
 
@@ -132,7 +133,22 @@ pub fn put_flag(work: &mut [u32], i: usize, flag: usize)
     ensures { λ _. ⌜ now (work .exit) ≡ putFlag (now (work .entry)) i flag ⌝ }
 {
     let stamp = work_rows::get(work, STAMP_BASE + i) % MARKS;
-    work_rows::put(work, STAMP_BASE + i, stamp + MARKS * (flag % FLAGS))
+    work_rows::put(work, STAMP_BASE + i, stamp + MARKS * (flag % LINKS))
+}
+
+// The link of the def, method or lambda at row i: the row of the scope around. It stands where a `var` has its flag.
+pub fn link(work: &[u32], i: usize) -> usize
+    requires { ⌜ i < 4294967296 ⌝ }
+    ensures { λ r. ⌜ (r ≡ linkAt (now (work .entry)) i) × (r < 524288) ⌝ }
+{
+    work_rows::get(work, STAMP_BASE + i) / MARKS
+}
+
+pub fn put_link(work: &mut [u32], i: usize, row: usize)
+    requires { ⌜ i < 4294967296 ⌝ }
+    ensures { λ _. ⌜ now (work .exit) ≡ putLink (now (work .entry)) i row ⌝ }
+{
+    put_flag(work, i, row)
 }
 
 // Of the first rows no mark of a block and no fault is left. The heads of the chains of names stay.

@@ -8,19 +8,20 @@ use lib.ListN.{length}
 use Rattle.read_fields.specs.declared.Cursor.{Cursor}
 use Rattle.read_row.specs.RowModel.{partsFrom, paramsOf}
 use Rattle.read_row.proofs.FieldsLeft.{end-inside, next-inside}
+use Rattle.walk_scopes.specs.ScopesModel.{scopeOf}
 use Rattle.walk_blocks.specs.BlocksModel.{entered}
 use Rattle.walk_blocks.proofs.Ways.{params-turn, params-end}
 use Rattle.walk_blocks.proofs.enter.Statement.{statement}
 use Rattle.walk_blocks.proofs.enter.Tie as tie
 
 abbrev Inv-loop : tie.InvT-loop
-Inv-loop text work₀ s i c₀ work c =
+Inv-loop text work₀ s l i c₀ work c =
     (length work ≡ length work₀)
-    × (entered text s (partsFrom text c) work ≡ entered text s (paramsOf text work₀ i) work₀)
+    × (entered text (scopeOf s l) i (partsFrom text c) work ≡ entered text (scopeOf s l) i (paramsOf text work₀ i) work₀)
     × (c .more ≡ true → c .at ≤ length text)
 
 abbrev μ-loop : tie.MeasureT-loop
-μ-loop text work₀ s i c₀ work c =
+μ-loop text work₀ s l i c₀ work c =
     length text + 1 - c .at
 
 params-requires : tie.Need-params-requires Inv-loop μ-loop
@@ -30,7 +31,7 @@ params-requires c κs =
 loop-holds : tie.Need-loop-holds Inv-loop μ-loop
 loop-holds c =
     let a = c .before .before .before .before .args in
-    (refl, ap (λ ps. entered (a .text .now) (a .s) ps (a .work .now)) (c .params .ensures .0), c .params .ensures .1)
+    (refl, ap (λ ps. entered (a .text .now) (scopeOf (a .s) (a .l)) (a .i) ps (a .work .now)) (c .params .ensures .0), c .params .ensures .1)
 
 field-requires : tie.Need-field-requires Inv-loop μ-loop
 field-requires c κs =
@@ -72,7 +73,7 @@ loop-again c =
     let l₂ = l .before in
     let a = l₂ .before .before .before .before .before .args in (
       e .enter-one .kept .1 .0 ∙ l₂ .loop .inv .0,
-      params-turn (a .text .now) (a .s) (l₂ .loop .work) (l₂ .loop .c) _ _ _ (l .loop-test .taken) (f .field .ensures) (e .enter-one .ensures) (c .next .ensures)
+      params-turn (a .text .now) (scopeOf (a .s) (a .l)) (a .i) (l₂ .loop .work) (l₂ .loop .c) _ _ _ (l .loop-test .taken) (f .field .ensures) (e .enter-one .ensures) (c .next .ensures)
           ∙ l₂ .loop .inv .1,
       subst (λ (d : Cursor). d .more ≡ true → d .at ≤ length (a .text .now)) (sym (c .next .ensures)) (next-inside (a .text .now) _),
     )
@@ -86,7 +87,7 @@ returns : tie.Need-returns Inv-loop μ-loop
 returns c =
     let l = c .before in
     let a = l .before .before .before .before .before .args in
-    sym (params-end (a .text .now) (a .s) (l .loop .work) (l .loop .c) (c .loop-test .left)) ∙ l .loop .inv .1
+    sym (params-end (a .text .now) (scopeOf (a .s) (a .l)) (a .i) (l .loop .work) (l .loop .c) (c .loop-test .left)) ∙ l .loop .inv .1
 
 pub enter-spec : {M : Type 1} → statement M
 enter-spec =

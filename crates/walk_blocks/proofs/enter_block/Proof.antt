@@ -1,6 +1,7 @@
 -- The parameters are bound, and the block is flagged where there are own names.
 use mathlib.Core.Path.{sym, _∙_}
 use borrow.Author.Needs.{needs}
+use Rattle.walk_scopes.specs.ScopesModel.{scopeOf}
 use Rattle.walk_blocks.proofs.Ways.{open-owned, open-plain}
 use Rattle.walk_blocks.proofs.enter_block.Statement.{statement}
 use Rattle.walk_blocks.proofs.enter_block.Tie as tie
@@ -27,7 +28,7 @@ returns c =
     let o = i .before in
     let e = o .before .before .before in
     let a = e .before .before .before .before .args in
-    open-owned (a .text .now) (a .s) (a .work .now) (a .i) (a .stop) _ (e .enter .ensures) (sym (o .owns .ensures) ∙ i .if1 .taken) _ (n .flag-block .ensures)
+    open-owned (a .text .now) (scopeOf (a .s) (a .l)) (a .i) (a .work .now) (a .stop) _ (e .enter .ensures) (sym (o .owns .ensures) ∙ i .if1 .taken) _ (n .flag-block .ensures)
 
 same-length-2 : tie.Need-same-length-2
 same-length-2 c = search needs
@@ -37,7 +38,7 @@ returns-2 c =
     let o = c .before in
     let e = o .before .before .before in
     let a = e .before .before .before .before .args in
-    open-plain (a .text .now) (a .s) (a .work .now) (a .i) (a .stop) _ (e .enter .ensures) (sym (o .owns .ensures) ∙ c .if1 .left)
+    open-plain (a .text .now) (scopeOf (a .s) (a .l)) (a .i) (a .work .now) (a .stop) _ (e .enter .ensures) (sym (o .owns .ensures) ∙ c .if1 .left)
 
 pub enter-block-spec : {M : Type 1} → statement M
 enter-block-spec =

@@ -8,8 +8,8 @@ use Rattle.walk_blocks.proofs.enter_one.Tie as tie
 row-of-requires : tie.Need-row-of-requires
 row-of-requires c κs = search needs
 
-define-requires : tie.Need-define-requires
-define-requires c κs = search needs
+bind-requires : tie.Need-bind-requires
+bind-requires c κs = search needs
 
 owns-requires : tie.Need-owns-requires
 owns-requires c κs = search needs
@@ -26,11 +26,11 @@ same-length c = search needs
 returns : tie.Need-returns
 returns c =
     let n = c .before .before in
-    let i = n .before .before .before in
+    let i = n .before .before in
     let o = i .before in
     let d = o .before .before .before in
     let r = d .before .before in
-    one-owned _ _ _ _ _ _ (r .row-of .ensures .0) (d .define .ensures) (sym (o .owns .ensures) ∙ i .if1 .taken) _ (n .note-name .ensures)
+    one-owned _ _ _ _ _ _ _ (r .row-of .ensures .0) (d .bind .ensures) (sym (o .owns .ensures) ∙ i .if1 .taken) _ (n .note-name .ensures)
 
 same-length-2 : tie.Need-same-length-2
 same-length-2 c = search needs
@@ -40,14 +40,14 @@ returns-2 c =
     let o = c .before in
     let d = o .before .before .before in
     let r = d .before .before in
-    one-plain _ _ _ _ _ _ (r .row-of .ensures .0) (d .define .ensures) (sym (o .owns .ensures) ∙ c .if1 .left)
+    one-plain _ _ _ _ _ _ _ (r .row-of .ensures .0) (d .bind .ensures) (sym (o .owns .ensures) ∙ c .if1 .left)
 
 pub enter-one-spec : {M : Type 1} → statement M
 enter-one-spec =
     tie.close
     (tie.spec
     row-of-requires
-    define-requires
+    bind-requires
     owns-requires
     add-note-name
     note-name-requires

@@ -2,6 +2,7 @@
 use mathlib.Core.Path.{ap, _∙_}
 use Rattle.walk_builtins.specs.Table.{names}
 use Rattle.work_marks.specs.MarksModel.{unstamped}
+use Rattle.walk_scopes.specs.ScopesModel.{topOf}
 use Rattle.walk_given.specs.GivenModel.{given, globalsFrom, begun}
 use borrow.Author.Needs.{needs}
 use Rattle.walk_given.proofs.bind_given.Statement.{statement}
@@ -31,8 +32,8 @@ returns c =
     let fm = fs .before .before .before .before in
     let a = fm .before .before .before .before .args in
     dg .define-globals .ensures
-    ∙ ap (globalsFrom (a .globals) 0 (a .s)) (db .define-builtins .ensures
-    ∙ ap (given (a .text .now) (a .s) names) (fs .forget-stamps .ensures ∙ ap (unstamped (a .rows)) (fm .forget-marks .ensures)))
+    ∙ ap (globalsFrom (a .globals) 0 (topOf (a .s))) (db .define-builtins .ensures
+    ∙ ap (given (a .text .now) (topOf (a .s)) names) (fs .forget-stamps .ensures ∙ ap (unstamped (a .rows)) (fm .forget-marks .ensures)))
 
 pub bind-given-spec : {M : Type 1} → statement M
 bind-given-spec =

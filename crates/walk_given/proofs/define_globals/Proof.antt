@@ -4,6 +4,7 @@ use native.Mathlib.Nat.{sub-zero}
 use native.Mathlib.Omega.{arith}
 use mathlib.Core.Path.{_≡_, refl, sym, ap, _∙_}
 use lib.ListN.{length}
+use Rattle.walk_scopes.specs.ScopesModel.{topOf}
 use Rattle.walk_given.specs.GivenModel.{globalsFrom}
 use Rattle.walk_given.proofs.Loops.{globals-more, globals-end}
 use Rattle.walk_given.proofs.define_globals.Statement.{statement}
@@ -11,7 +12,7 @@ use Rattle.walk_given.proofs.define_globals.Tie as tie
 
 abbrev Inv-loop : tie.InvT-loop
 Inv-loop work₀ s globals i₀ work i =
-    (length work ≡ length work₀) × (globalsFrom (globals - i) i s work ≡ globalsFrom globals 0 s work₀)
+    (length work ≡ length work₀) × (globalsFrom (globals - i) i (topOf s) work ≡ globalsFrom globals 0 (topOf s) work₀)
 
 abbrev μ-loop : tie.MeasureT-loop
 μ-loop work₀ s globals i₀ work i =
@@ -20,7 +21,7 @@ abbrev μ-loop : tie.MeasureT-loop
 loop-holds : tie.Need-loop-holds Inv-loop μ-loop
 loop-holds c =
     let a = c .before .args in
-    (refl, ap (λ n. globalsFrom n 0 (a .s) (a .work .now)) (sub-zero (a .globals)))
+    (refl, ap (λ n. globalsFrom n 0 (topOf (a .s)) (a .work .now)) (sub-zero (a .globals)))
 
 number-requires : tie.Need-number-requires Inv-loop μ-loop
 number-requires c κs =
@@ -45,7 +46,7 @@ loop-again c =
     let l = n .before .before .before in
     let l₂ = l .before in
     let a = l₂ .before .before .args in (
-      d .define .kept .1 .0 ∙ l₂ .loop .inv .0,
+      d .define .kept .0 ∙ l₂ .loop .inv .0,
       globals-more (a .globals) (l₂ .loop .i) (a .s) (l₂ .loop .work) _ _ (l .loop-test .taken) (n .number .ensures) (d .define .ensures) ∙ l₂ .loop .inv .1,
     )
 

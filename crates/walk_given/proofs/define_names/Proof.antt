@@ -5,6 +5,7 @@ use mathlib.Core.Path.{_≡_, refl, sym, ap, _∙_}
 use lib.ListN.{length, drop}
 use Rattle.walk_builtins.specs.Table.{cutBy, total}
 use Rattle.walk_builtins.proofs.Search.{total-turn}
+use Rattle.walk_scopes.specs.ScopesModel.{topOf}
 use Rattle.walk_given.specs.GivenModel.{given}
 use Rattle.walk_given.proofs.Loops.{given-more, given-end}
 use Rattle.walk_given.proofs.define_names.Statement.{statement}
@@ -15,7 +16,7 @@ Inv-loop text work₀ s bytes lengths at₀ k₀ work at k =
     (length work ≡ length work₀)
     × (k ≤ length lengths)
     × (at + total (drop k lengths) ≤ length bytes)
-    × (given text s (cutBy (drop k lengths) (drop at bytes)) work ≡ given text s (cutBy lengths bytes) work₀)
+    × (given text (topOf s) (cutBy (drop k lengths) (drop at bytes)) work ≡ given text (topOf s) (cutBy lengths bytes) work₀)
 
 abbrev μ-loop : tie.MeasureT-loop
 μ-loop text work₀ s bytes lengths at₀ k₀ work at k =
@@ -79,7 +80,7 @@ loop-again c =
     let l₂ = l .before in
     let a = l₂ .before .before .before .before .before .args in
     let q = l₂ .loop .inv in (
-      d .define .kept .1 .0 ∙ q .0,
+      d .define .kept .0 ∙ q .0,
       omega arith,
       omega (arith, total-turn (a .lengths .now) (l₂ .loop .k) (l .loop-test .taken)),
       given-more (a .text .now) (a .s) (a .lengths .now) (a .bytes .now) (l₂ .loop .work) (l₂ .loop .at) (l₂ .loop .k) (r .row-of .result) _
@@ -98,7 +99,7 @@ returns c =
     let o = l .before .before .before .before .before in
     let a = o .args in
     sym (given-end (a .text .now) (a .s) (a .lengths .now) (a .bytes .now) (l .loop .work) (l .loop .at) (l .loop .k) (c .loop-test .left))
-    ∙ (l .loop .inv .3 ∙ ap (λ xs. given (a .text .now) (a .s) xs (a .work .now)) (o .pre .cut))
+    ∙ (l .loop .inv .3 ∙ ap (λ xs. given (a .text .now) (topOf (a .s)) xs (a .work .now)) (o .pre .cut))
 
 pub define-names-spec : {M : Type 1} → statement M
 define-names-spec =

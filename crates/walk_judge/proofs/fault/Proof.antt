@@ -24,9 +24,9 @@ returns c =
     let p = i .before .before .before in
     let a = p .before .before .before .args in
     r .raise-lambda .ensures
-    ∙ (ap (λ v. raisedLambda v (a .name) (a .s .outer)) (p .put-slot .ensures)
+    ∙ (ap (λ v. raisedLambda v (a .name) (a .l .outer)) (p .put-slot .ensures)
     ∙ sym
-    (faulted-blames (a .s) (a .name) (a .i) (a .kind) (a .work .now)
+    (faulted-blames (a .l .outer) (a .name) (a .i) (a .kind) (a .work .now)
     (⊎-elim (λ v. rw (eq-eqb (a .kind) 10 (v .taken))) (λ v. rw (ne-eqb (a .kind) 10 (v .0 .left)) (v .1 .taken)) (i .if1 .came))))
 
 same-length-2 : tie.Need-same-length-2
@@ -38,7 +38,7 @@ returns-2 c =
     let p = i .before .before .before in
     let a = p .before .before .before .args in
     p .put-slot .ensures
-    ∙ sym (faulted-plain (a .s) (a .name) (a .i) (a .kind) (a .work .now) (rw (ne-eqb (a .kind) 10 (i .if1 .left)) (c .if2 .left)))
+    ∙ sym (faulted-plain (a .l .outer) (a .name) (a .i) (a .kind) (a .work .now) (rw (ne-eqb (a .kind) 10 (i .if1 .left)) (c .if2 .left)))
 
 pub fault-spec : {M : Type 1} → statement M
 fault-spec =

@@ -12,12 +12,12 @@ returns : tie.Need-returns
 returns c =
     let i = c .before in
     let a = i .before .before .before .args in
-    c .flag .ensures ∙ sym (flag-def (a .s) (a .work .now) (a .i) (i .if1 .taken))
+    c .flag .ensures ∙ sym (flag-def (a .s .home) (a .work .now) (a .i) (i .if1 .taken))
 
 returns-2 : tie.Need-returns-2
 returns-2 c =
     let a = c .before .before .before .args in
-    sym (flag-other (a .s) (a .work .now) (a .i) (c .if1 .left))
+    sym (flag-other (a .s .home) (a .work .now) (a .i) (c .if1 .left))
 
 pub flag-in-spec : {M : Type 1} → statement M
 flag-in-spec = tie.close (tie.spec flag-requires returns returns-2)

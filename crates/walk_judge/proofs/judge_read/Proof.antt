@@ -1,6 +1,7 @@
 -- The ways of a read: a lambda's parameter, an own name that is assigned or not, a name that is in view, and one that is not.
 use native.Mathlib.Omega.{arith}
 use mathlib.Core.Path.{sym, _∙_}
+use Rattle.walk_scopes.specs.ScopesModel.{scopeOf}
 use Rattle.walk_judge.proofs.Ways.{read-param, read-assigned, read-unbound, read-in-view, read-undefined}
 use borrow.Author.Needs.{needs}
 use Rattle.walk_judge.proofs.judge_read.Statement.{statement}
@@ -15,7 +16,7 @@ same-length c = search needs
 returns : tie.Need-returns
 returns c =
     let a = c .before .before .before .before .args in
-    read-param (a .s) (a .called) (a .name) (a .i) (a .work .now) (omega arith)
+    read-param (scopeOf (a .s) (a .l)) (a .called) (a .name) (a .i) (a .work .now) (omega arith)
 
 flag-in-requires : tie.Need-flag-in-requires
 flag-in-requires c κs = search needs
@@ -27,7 +28,7 @@ returns-2 : tie.Need-returns-2
 returns-2 c =
     let fi = c .before in
     let a = fi .before .before .before .before .before .before .args in
-    read-assigned (a .s) (a .called) (a .name) (a .i) (a .work .now) (omega arith) (fi .flag-in .result) (fi .flag-in .ensures) (c .if2 .taken)
+    read-assigned (scopeOf (a .s) (a .l)) (a .called) (a .name) (a .i) (a .work .now) (omega arith) (fi .flag-in .result) (fi .flag-in .ensures) (c .if2 .taken)
 
 unbound-kind-requires : tie.Need-unbound-kind-requires
 unbound-kind-requires c κs = search needs
@@ -46,7 +47,7 @@ returns-3 c =
     let i₂ = i .before in
     let fi = i₂ .before in
     let a = fi .before .before .before .before .before .before .args in
-    read-unbound (a .s) (a .called) (a .name) (a .i) (a .work .now) (omega arith) (fi .flag-in .result) (fi .flag-in .ensures) (i₂ .if2 .left) (i .if3 .taken) _ _ (uk .unbound-kind .ensures) (f .fault .ensures)
+    read-unbound (scopeOf (a .s) (a .l)) (a .called) (a .name) (a .i) (a .work .now) (omega arith) (fi .flag-in .result) (fi .flag-in .ensures) (i₂ .if2 .left) (i .if3 .taken) _ _ (uk .unbound-kind .ensures) (f .fault .ensures)
 
 is-defined-requires : tie.Need-is-defined-requires
 is-defined-requires c κs = search needs
@@ -61,7 +62,7 @@ returns-4 c =
     let i₂ = i .before in
     let fi = i₂ .before in
     let a = fi .before .before .before .before .before .before .args in
-    read-in-view (a .s) (a .called) (a .name) (a .i) (a .work .now) (omega arith) (fi .flag-in .result) (fi .flag-in .ensures) (i₂ .if2 .left) (i .if3 .left) (sym (id .is-defined .ensures) ∙ c .if4 .taken)
+    read-in-view (scopeOf (a .s) (a .l)) (a .called) (a .name) (a .i) (a .work .now) (omega arith) (fi .flag-in .result) (fi .flag-in .ensures) (i₂ .if2 .left) (i .if3 .left) (sym (id .is-defined .ensures) ∙ c .if4 .taken)
 
 undefined-kind-requires : tie.Need-undefined-kind-requires
 undefined-kind-requires c κs = search needs
@@ -82,7 +83,7 @@ returns-5 c =
     let i₃ = i₂ .before in
     let fi = i₃ .before in
     let a = fi .before .before .before .before .before .before .args in
-    read-undefined (a .s) (a .called) (a .name) (a .i) (a .work .now) (omega arith) (fi .flag-in .result) (fi .flag-in .ensures) (i₃ .if2 .left) (i₂ .if3 .left) (sym (id .is-defined .ensures) ∙ i .if4 .left) _ _ (uk .undefined-kind .ensures) (f .fault2 .ensures)
+    read-undefined (scopeOf (a .s) (a .l)) (a .called) (a .name) (a .i) (a .work .now) (omega arith) (fi .flag-in .result) (fi .flag-in .ensures) (i₃ .if2 .left) (i₂ .if3 .left) (sym (id .is-defined .ensures) ∙ i .if4 .left) _ _ (uk .undefined-kind .ensures) (f .fault2 .ensures)
 
 pub judge-read-spec : {M : Type 1} → statement M
 judge-read-spec =

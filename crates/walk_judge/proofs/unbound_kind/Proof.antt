@@ -8,19 +8,19 @@ use Rattle.walk_judge.proofs.unbound_kind.Tie as tie
 returns : tie.Need-returns
 returns c =
     let a = c .before .before .args in
-    sym (unbound-lambda (a .s) (a .called) (c .if1 .taken))
+    sym (unbound-lambda (a .l .outer) (a .called) (c .if1 .taken))
 
 returns-2 : tie.Need-returns-2
 returns-2 c =
     let i = c .before in
     let a = i .before .before .args in
-    sym (unbound-plain (a .s) (a .called) (i .if1 .left) ∙ ap (λ b. cond b 12 11) (c .if2 .taken))
+    sym (unbound-plain (a .l .outer) (a .called) (i .if1 .left) ∙ ap (λ b. cond b 12 11) (c .if2 .taken))
 
 returns-3 : tie.Need-returns-3
 returns-3 c =
     let i = c .before in
     let a = i .before .before .args in
-    sym (unbound-plain (a .s) (a .called) (i .if1 .left) ∙ ap (λ b. cond b 12 11) (c .if2 .left))
+    sym (unbound-plain (a .l .outer) (a .called) (i .if1 .left) ∙ ap (λ b. cond b 12 11) (c .if2 .left))
 
 pub unbound-kind-spec : {M : Type 1} → statement M
 unbound-kind-spec = tie.close (tie.spec returns returns-2 returns-3)

@@ -10,7 +10,7 @@ returns : tie.Need-returns
 returns c =
     let i = c .before .before in
     let a = i .before .before .args in
-    sym (undefined-lambda (a .s) (a .called) (i .if1 .taken) (c .if2 .taken))
+    sym (undefined-lambda (a .s .home) (a .l .outer) (a .called) (i .if1 .taken) (c .if2 .taken))
 
 returns-2 : tie.Need-returns-2
 returns-2 c =
@@ -18,8 +18,8 @@ returns-2 c =
     let a = i .before .before .args in
     sym
     (⊎-elim
-    (λ v. undefined-inner (a .s) (a .called) (v .0 .taken) (v .2 .left))
-    (λ v. undefined-plain (a .s) (a .called) (v .left)) (i .if1 .came) ∙ ap (λ b. cond b 9 8) (c .if3 .taken))
+    (λ v. undefined-inner (a .s .home) (a .l .outer) (a .called) (v .0 .taken) (v .2 .left))
+    (λ v. undefined-plain (a .s .home) (a .l .outer) (a .called) (v .left)) (i .if1 .came) ∙ ap (λ b. cond b 9 8) (c .if3 .taken))
 
 returns-3 : tie.Need-returns-3
 returns-3 c =
@@ -27,8 +27,8 @@ returns-3 c =
     let a = i .before .before .args in
     sym
     (⊎-elim
-    (λ v. undefined-inner (a .s) (a .called) (v .0 .taken) (v .2 .left))
-    (λ v. undefined-plain (a .s) (a .called) (v .left)) (i .if1 .came) ∙ ap (λ b. cond b 9 8) (c .if3 .left))
+    (λ v. undefined-inner (a .s .home) (a .l .outer) (a .called) (v .0 .taken) (v .2 .left))
+    (λ v. undefined-plain (a .s .home) (a .l .outer) (a .called) (v .left)) (i .if1 .came) ∙ ap (λ b. cond b 9 8) (c .if3 .left))
 
 pub undefined-kind-spec : {M : Type 1} → statement M
 undefined-kind-spec = tie.close (tie.spec returns returns-2 returns-3)

@@ -2,18 +2,19 @@
 -- call that spends none goes to a lower rank. The loops' invariant: what is left of the rows gives what is wanted.
 use Prim.Native.Nat.{ℕ, _+_, _*_, _-_, _<_}
 use native.Mathlib.Omega.{arith}
-use mathlib.Core.Path.{_≡_, refl, sym, _∙_}
+use mathlib.Core.Path.{_≡_, refl, sym, ap, _∙_}
 use mathlib.Core.Bool.{false}
 use lib.ListN.{length}
 use Rattle.work_rows.specs.Layout.{afterRow}
 use Rattle.work_rows.specs.LoopsModel.{rowsTo}
 use Rattle.work_rows.proofs.Loops.{rows-end, rows-turn}
-use Rattle.walk_tree.specs.WalkModel.{nextTarget, targetAt, walkExpr, walkLine, walkExprs, walkStmts}
+use Rattle.walk_scopes.specs.ScopesModel.{scopeOf, topOf}
+use Rattle.walk_tree.specs.WalkModel.{walk, nextLine, nextTarget, targetAt, isBlock, walkExpr, walkLine, walkExprs, walkStmts}
 use Rattle.walk_tree.proofs.Ways.{
   after-on,
+  line-on,
   target-on,
   number-small,
-  scoped,
   target-var,
   target-tuple,
   target-index,
@@ -21,6 +22,8 @@ use Rattle.walk_tree.proofs.Ways.{
   target-none,
   line-stmt,
   line-expr,
+  body-stmt,
+  body-expr,
   block-lines,
   expr-none,
   expr-far,
@@ -33,8 +36,7 @@ use Rattle.walk_tree.proofs.Ways.{
   stmt-attr,
   stmt-inner-class,
   stmt-class,
-  stmt-def,
-  stmt-method,
+  stmt-block,
   stmt-assign,
   stmt-for,
   stmt-other,
@@ -67,15 +69,18 @@ use Rattle.walk_tree.proofs.walk_targets.Kinds as walk-targets-kinds
 use Rattle.walk_tree.proofs.+walk_block+walk_expr+walk_exprs+walk_line+walk_stmt+walk_stmts+walk_target+walk_targets.Lts-walk_targets as walk-targets-lts
 use Rattle.walk_blocks.proofs.enter_block.Reads as enter-block-reads
 use Rattle.walk_judge.proofs.judge_read.Reads as judge-read-reads
-use Rattle.work_rows.proofs.after_row.Reads as after-row-reads
+use Rattle.walk_scopes.proofs.define.Reads as define-reads
+use Rattle.walk_scopes.proofs.no_lambdas.Reads as no-lambdas-reads
+use Rattle.walk_scopes.proofs.pop.Reads as pop-reads
+use Rattle.walk_scopes.proofs.push.Reads as push-reads
+use Rattle.walk_scopes.proofs.within.Reads as within-reads
+use Rattle.walk_tree.proofs.is_block.Reads as is-block-reads
+use Rattle.walk_tree.proofs.next_target.Reads as next-target-reads
+use Rattle.walk_tree.proofs.walk_head.Reads as walk-head-reads
 use Rattle.work_marks.proofs.put_slot.Reads as put-slot-reads
+use Rattle.work_rows.proofs.after_row.Reads as after-row-reads
 use Rattle.work_rows.proofs.kind.Reads as kind-reads
 use Rattle.work_rows.proofs.number.Reads as number-reads
-use Rattle.walk_scopes.proofs.ScopeStack.define.Reads as define-reads
-use Rattle.walk_scopes.proofs.ScopeStack.push.Reads as push-reads
-use Rattle.walk_scopes.proofs.ScopeStack.push_lambda.Reads as push-lambda-reads
-use Rattle.walk_tree.proofs.judge_method.Reads as judge-method-reads
-use Rattle.walk_tree.proofs.next_target.Reads as next-target-reads
 use Rattle.walk_tree.proofs.+walk_block+walk_expr+walk_exprs+walk_line+walk_stmt+walk_stmts+walk_target+walk_targets.{
   statement,
 }
@@ -93,7 +98,7 @@ abbrev μ-walk-exprs : Measures 2 walk-exprs-kinds.ps ℕ
 μ-walk-exprs κs a = 8 * (a .1 .1 .0) + 2
 
 abbrev μ-walk-line : Measures 2 walk-line-kinds.ps ℕ
-μ-walk-line κs a = 8 * (a .1 .1 .0) + 2
+μ-walk-line κs a = 8 * (a .1 .1 .0) + 4
 
 abbrev μ-walk-stmt : Measures 2 walk-stmt-kinds.ps ℕ
 μ-walk-stmt κs a = 8 * (a .1 .1 .0) + 1
@@ -174,10 +179,32 @@ walk-targets-below t =
 
 -- ---- walk_block
 abbrev walk-block-calls : ℕ → walk-block-lts.Claims
-walk-block-calls t = (enter-block-reads.Asked, enter-block-reads.Learnt, walk-stmts-below t, walk-stmts.Post)
+walk-block-calls t = (
+  walk-head-reads.Asked,
+  walk-head-reads.Learnt,
+  push-reads.Asked,
+  push-reads.Learnt,
+  no-lambdas-reads.Asked,
+  no-lambdas-reads.Learnt,
+  enter-block-reads.Asked,
+  enter-block-reads.Learnt,
+  walk-stmts-below t,
+  walk-stmts.Post,
+  pop-reads.Asked,
+  pop-reads.Learnt,
+)
 
-walk-block-open-requires : (t : ℕ) → walk-block-lts.Need-enter-block-requires (walk-block-calls t) (walk-block-at t) walk-block.Post
-walk-block-open-requires t c κs = omega arith
+walk-block-walk-head-requires : (t : ℕ) → walk-block-lts.Need-walk-head-requires (walk-block-calls t) (walk-block-at t) walk-block.Post
+walk-block-walk-head-requires t c κs = omega arith
+
+walk-block-push-requires : (t : ℕ) → walk-block-lts.Need-push-requires (walk-block-calls t) (walk-block-at t) walk-block.Post
+walk-block-push-requires t c κs = omega arith
+
+walk-block-no-lambdas-requires : (t : ℕ) → walk-block-lts.Need-no-lambdas-requires (walk-block-calls t) (walk-block-at t) walk-block.Post
+walk-block-no-lambdas-requires t c κs = tt
+
+walk-block-enter-block-requires : (t : ℕ) → walk-block-lts.Need-enter-block-requires (walk-block-calls t) (walk-block-at t) walk-block.Post
+walk-block-enter-block-requires t c κs = omega arith
 
 walk-block-add-walk-stmts : (t : ℕ) → walk-block-lts.Need-add-walk-stmts (walk-block-calls t) (walk-block-at t) walk-block.Post
 walk-block-add-walk-stmts t c = omega arith
@@ -185,17 +212,27 @@ walk-block-add-walk-stmts t c = omega arith
 walk-block-walk-stmts-requires : (t : ℕ) → walk-block-lts.Need-walk-stmts-requires (walk-block-calls t) (walk-block-at t) walk-block.Post
 walk-block-walk-stmts-requires t c κs = omega arith
 
+walk-block-pop-requires : (t : ℕ) → walk-block-lts.Need-pop-requires (walk-block-calls t) (walk-block-at t) walk-block.Post
+walk-block-pop-requires t c κs = tt
+
 walk-block-same-length : (t : ℕ) → walk-block-lts.Need-same-length (walk-block-calls t) (walk-block-at t) walk-block.Post
 walk-block-same-length t c =
-    let w = c .before .before in
-    let o = w .before .before .before .before in
-    w .walk-stmts .kept .1 .0 ∙ o .enter-block .kept .1 .0
+    let w = c .before .before .before .before in
+    let e = w .before .before .before .before in
+    let p = e .before .before .before .before .before in
+    let h = p .before .before .before .before in
+    w .walk-stmts .kept .1 .0 ∙ (e .enter-block .kept .1 .0 ∙ (p .push .kept .0 ∙ h .walk-head .kept .1 .0))
 
 walk-block-returns : (t : ℕ) → walk-block-lts.Need-returns (walk-block-calls t) (walk-block-at t) walk-block.Post
 walk-block-returns t c =
-    let w = c .before .before in
-    let o = w .before .before .before .before in
-    block-lines _ _ _ _ _ _ _ (o .enter-block .ensures) (w .walk-stmts .ensures)
+    let w = c .before .before .before .before in
+    let e = w .before .before .before .before in
+    let n = e .before in
+    let p = n .before .before .before .before in
+    let h = p .before .before .before .before in
+    let a = h .before .before .before .before .args in
+    block-lines (a .left) (a .text .now) (a .s) (a .i) (a .stop) (a .work .now) _ _ _ _ _ _ _ _ (h .walk-head .ensures) (p .push .ensures .0) (p .push .ensures .1)
+    (n .no-lambdas .ensures) (e .enter-block .ensures) (w .walk-stmts .ensures) (c .pop .ensures)
 
 -- ---- walk_expr
 abbrev walk-expr-calls : ℕ → walk-expr-lts.Claims
@@ -212,8 +249,8 @@ walk-expr-calls t = (
   walk-expr.Post,
   walk-exprs-below t,
   walk-exprs.Post,
-  push-lambda-reads.Asked,
-  push-lambda-reads.Learnt,
+  within-reads.Asked,
+  within-reads.Learnt,
   enter-block-reads.Asked,
   enter-block-reads.Learnt,
   walk-line-below t,
@@ -237,8 +274,8 @@ walk-expr-kind-requires t c κs = tt
 walk-expr-number-requires : (t : ℕ) → walk-expr-lts.Need-number-requires (walk-expr-calls t) (walk-expr-at t) walk-expr.Post
 walk-expr-number-requires t c κs = omega arith
 
-walk-expr-read-requires : (t : ℕ) → walk-expr-lts.Need-judge-read-requires (walk-expr-calls t) (walk-expr-at t) walk-expr.Post
-walk-expr-read-requires t c κs =
+walk-expr-judge-read-requires : (t : ℕ) → walk-expr-lts.Need-judge-read-requires (walk-expr-calls t) (walk-expr-at t) walk-expr.Post
+walk-expr-judge-read-requires t c κs =
     let a = c .before .before .before .before .before .before .before .before .before .before .before .before .args in
     omega (arith, c .number .ensures, number-small (a .work .now) (a .i) (omega arith))
 
@@ -263,13 +300,11 @@ walk-expr-sub-walk-exprs t c = omega arith
 walk-expr-walk-exprs-requires : (t : ℕ) → walk-expr-lts.Need-walk-exprs-requires (walk-expr-calls t) (walk-expr-at t) walk-expr.Post
 walk-expr-walk-exprs-requires t c κs = omega arith
 
-walk-expr-push-lambda-requires : (t : ℕ) → walk-expr-lts.Need-push-lambda-requires (walk-expr-calls t) (walk-expr-at t) walk-expr.Post
-walk-expr-push-lambda-requires t c κs = tt
+walk-expr-within-requires : (t : ℕ) → walk-expr-lts.Need-within-requires (walk-expr-calls t) (walk-expr-at t) walk-expr.Post
+walk-expr-within-requires t c κs = tt
 
-walk-expr-open-requires : (t : ℕ) → walk-expr-lts.Need-enter-block-requires (walk-expr-calls t) (walk-expr-at t) walk-expr.Post
-walk-expr-open-requires t c κs =
-    let p = c .before in
-    omega (arith, scoped (p .push-lambda .ensures))
+walk-expr-enter-block-requires : (t : ℕ) → walk-expr-lts.Need-enter-block-requires (walk-expr-calls t) (walk-expr-at t) walk-expr.Post
+walk-expr-enter-block-requires t c κs = omega arith
 
 walk-expr-sub-walk-line : (t : ℕ) → walk-expr-lts.Need-sub-walk-line (walk-expr-calls t) (walk-expr-at t) walk-expr.Post
 walk-expr-sub-walk-line t c = omega arith
@@ -278,10 +313,7 @@ walk-expr-add-walk-line : (t : ℕ) → walk-expr-lts.Need-add-walk-line (walk-e
 walk-expr-add-walk-line t c = omega arith
 
 walk-expr-walk-line-requires : (t : ℕ) → walk-expr-lts.Need-walk-line-requires (walk-expr-calls t) (walk-expr-at t) walk-expr.Post
-walk-expr-walk-line-requires t c κs =
-    let p = c .before .before .before .before .before in
-    let o = p .before .before .before .before .before .before .before .before .before .before in
-    omega (arith, o .pre .1, scoped (p .push-lambda .ensures))
+walk-expr-walk-line-requires t c κs = omega arith
 
 walk-expr-sub-walk-exprs-2 : (t : ℕ) → walk-expr-lts.Need-sub-walk-exprs-2 (walk-expr-calls t) (walk-expr-at t) walk-expr.Post
 walk-expr-sub-walk-exprs-2 t c = omega arith
@@ -343,8 +375,9 @@ walk-expr-returns-5 t c =
     let a₂ = k .before .before in
     let i = a₂ .before .before in
     let i₂ = i .before in
+    let a = i₂ .before .before .before .args in
     expr-lambda _ _ _ _ _ _ (i₂ .if1 .left) (i .if2 .left) _ (a₂ .after-row .ensures .0) _ _ _ (sym (k .kind .ensures) ∙ m .match .keys3)
-    (p .push-lambda .ensures) (o .enter-block .ensures) (w .walk-line .ensures)
+    (ap (scopeOf (a .s)) (p .within .ensures)) (o .enter-block .ensures) (w .walk-line .ensures)
 
 walk-expr-same-length-4 : (t : ℕ) → walk-expr-lts.Need-same-length-4 (walk-expr-calls t) (walk-expr-at t) walk-expr.Post
 walk-expr-same-length-4 t c =
@@ -363,17 +396,17 @@ walk-expr-returns-6 t c =
     (λ e. m .match .rest .0 .0 .1 (k .kind .ensures ∙ e)) (λ e. m .match .rest .0 .1 (k .kind .ensures ∙ e))
     (λ e. m .match .rest .1 (k .kind .ensures ∙ e)) (w .walk-exprs2 .ensures)
 
-abbrev walk-exprs-Inv-loop : walk-exprs-lts.InvT-loop
-walk-exprs-Inv-loop text work₀ left s first stop at₀ work at =
-    (length work ≡ length work₀)
-    × (walkExprs left text s at stop work ≡ walkExprs left text s first stop work₀)
-
-abbrev walk-exprs-μ-loop : walk-exprs-lts.MeasureT-loop
-walk-exprs-μ-loop text work₀ left s first stop at₀ work at = stop - at
-
 -- ---- walk_exprs
 abbrev walk-exprs-calls : ℕ → walk-exprs-lts.Claims
 walk-exprs-calls t = (after-row-reads.Asked, after-row-reads.Learnt, walk-expr-below t, walk-expr.Post)
+
+abbrev walk-exprs-Inv-loop : walk-exprs-lts.InvT-loop
+walk-exprs-Inv-loop text work₀ left s l first stop at₀ work at =
+    (length work ≡ length work₀)
+    × (walkExprs left text (scopeOf s l) at stop work ≡ walkExprs left text (scopeOf s l) first stop work₀)
+
+abbrev walk-exprs-μ-loop : walk-exprs-lts.MeasureT-loop
+walk-exprs-μ-loop text work₀ left s l first stop at₀ work at = stop - at
 
 walk-exprs-loop-holds : (t : ℕ)
     → walk-exprs-lts.Need-loop-holds (walk-exprs-calls t) (walk-exprs-at t) walk-exprs.Post walk-exprs-Inv-loop walk-exprs-μ-loop
@@ -400,7 +433,7 @@ walk-exprs-loop-again t c =
     let l₂ = l .before in
     let a = l₂ .before .before .before .args in (
       w .walk-expr .kept .1 .0 ∙ l₂ .loop .inv .0,
-      rows-turn afterRow (walkExpr (a .left) (a .text .now) false (a .s)) after-on (l₂ .loop .at) (a .stop) (a₂ .after-row .result)
+      rows-turn afterRow (walkExpr (a .left) (a .text .now) false (scopeOf (a .s) (a .l))) after-on (l₂ .loop .at) (a .stop) (a₂ .after-row .result)
           (l₂ .loop .work) _ (l .loop-test .taken) (a₂ .after-row .ensures .0) (w .walk-expr .ensures)
           ∙ l₂ .loop .inv .1,
     )
@@ -416,18 +449,21 @@ walk-exprs-returns : (t : ℕ)
 walk-exprs-returns t c =
     let l = c .before in
     let a = l .before .before .before .args in
-    sym (rows-end afterRow (walkExpr (a .left) (a .text .now) false (a .s)) (l .loop .at) (a .stop) (l .loop .work) (c .loop-test .left)) ∙
-    l .loop .inv .1
+    sym (rows-end afterRow (walkExpr (a .left) (a .text .now) false (scopeOf (a .s) (a .l))) (l .loop .at) (a .stop) (l .loop .work) (c .loop-test .left))
+    ∙ l .loop .inv .1
 
 -- ---- walk_line
 abbrev walk-line-calls : ℕ → walk-line-lts.Claims
-walk-line-calls t = (kind-reads.Asked, kind-reads.Learnt, walk-stmt-below t, walk-stmt.Post, walk-expr-below t, walk-expr.Post)
+walk-line-calls t = (kind-reads.Asked, kind-reads.Learnt, walk-stmts-below t, walk-stmts.Post, walk-expr-below t, walk-expr.Post)
 
 walk-line-kind-requires : (t : ℕ) → walk-line-lts.Need-kind-requires (walk-line-calls t) (walk-line-at t) walk-line.Post
 walk-line-kind-requires t c κs = tt
 
-walk-line-walk-stmt-requires : (t : ℕ) → walk-line-lts.Need-walk-stmt-requires (walk-line-calls t) (walk-line-at t) walk-line.Post
-walk-line-walk-stmt-requires t c κs = omega arith
+walk-line-add-walk-stmts : (t : ℕ) → walk-line-lts.Need-add-walk-stmts (walk-line-calls t) (walk-line-at t) walk-line.Post
+walk-line-add-walk-stmts t c = omega arith
+
+walk-line-walk-stmts-requires : (t : ℕ) → walk-line-lts.Need-walk-stmts-requires (walk-line-calls t) (walk-line-at t) walk-line.Post
+walk-line-walk-stmts-requires t c κs = omega arith
 
 walk-line-walk-expr-requires : (t : ℕ) → walk-line-lts.Need-walk-expr-requires (walk-line-calls t) (walk-line-at t) walk-line.Post
 walk-line-walk-expr-requires t c κs = omega arith
@@ -435,12 +471,13 @@ walk-line-walk-expr-requires t c κs = omega arith
 walk-line-same-length : (t : ℕ) → walk-line-lts.Need-same-length (walk-line-calls t) (walk-line-at t) walk-line.Post
 walk-line-same-length t c =
     let w = c .before .before in
-    w .walk-stmt .kept .1 .0
+    w .walk-stmts .kept .1 .0
 
 walk-line-returns : (t : ℕ) → walk-line-lts.Need-returns (walk-line-calls t) (walk-line-at t) walk-line.Post
 walk-line-returns t c =
     let w = c .before .before in
-    line-stmt _ _ _ _ _ _ (omega arith) (w .walk-stmt .ensures)
+    let a = w .before .before .before .before .before .before .before .args in
+    body-stmt (a .left) (a .text .now) (a .s) (a .i) (a .work .now) (a .l) _ _ (omega arith) (w .walk-stmts .ensures)
 
 walk-line-same-length-2 : (t : ℕ) → walk-line-lts.Need-same-length-2 (walk-line-calls t) (walk-line-at t) walk-line.Post
 walk-line-same-length-2 t c =
@@ -450,7 +487,8 @@ walk-line-same-length-2 t c =
 walk-line-returns-2 : (t : ℕ) → walk-line-lts.Need-returns-2 (walk-line-calls t) (walk-line-at t) walk-line.Post
 walk-line-returns-2 t c =
     let w = c .before .before in
-    line-expr _ _ _ _ _ _ (omega arith) (w .walk-expr .ensures)
+    let a = w .before .before .before .before .before .before .before .args in
+    body-expr (a .left) (a .text .now) (a .s) (a .i) (a .work .now) (a .l) _ (omega arith) (w .walk-expr .ensures)
 
 -- ---- walk_stmt
 abbrev walk-stmt-calls : ℕ → walk-stmt-lts.Claims
@@ -459,22 +497,22 @@ walk-stmt-calls t = (
   after-row-reads.Learnt,
   kind-reads.Asked,
   kind-reads.Learnt,
-  number-reads.Asked,
-  number-reads.Learnt,
-  define-reads.Asked,
-  define-reads.Learnt,
-  push-reads.Asked,
-  push-reads.Learnt,
+  is-block-reads.Asked,
+  is-block-reads.Learnt,
   walk-block-below t,
   walk-block.Post,
+  no-lambdas-reads.Asked,
+  no-lambdas-reads.Learnt,
   walk-expr-below t,
   walk-expr.Post,
   walk-targets-below t,
   walk-targets.Post,
+  number-reads.Asked,
+  number-reads.Learnt,
+  define-reads.Asked,
+  define-reads.Learnt,
   walk-stmts-below t,
   walk-stmts.Post,
-  judge-method-reads.Asked,
-  judge-method-reads.Learnt,
 )
 
 walk-stmt-returns : (t : ℕ) → walk-stmt-lts.Need-returns (walk-stmt-calls t) (walk-stmt-at t) walk-stmt.Post
@@ -491,26 +529,31 @@ walk-stmt-after-row-requires t c κs = omega arith
 walk-stmt-kind-requires : (t : ℕ) → walk-stmt-lts.Need-kind-requires (walk-stmt-calls t) (walk-stmt-at t) walk-stmt.Post
 walk-stmt-kind-requires t c κs = tt
 
-walk-stmt-number-requires : (t : ℕ) → walk-stmt-lts.Need-number-requires (walk-stmt-calls t) (walk-stmt-at t) walk-stmt.Post
-walk-stmt-number-requires t c κs = omega arith
-
-walk-stmt-define-requires : (t : ℕ) → walk-stmt-lts.Need-define-requires (walk-stmt-calls t) (walk-stmt-at t) walk-stmt.Post
-walk-stmt-define-requires t c κs = tt
-
-walk-stmt-push-requires : (t : ℕ) → walk-stmt-lts.Need-push-requires (walk-stmt-calls t) (walk-stmt-at t) walk-stmt.Post
-walk-stmt-push-requires t c κs = tt
+walk-stmt-is-block-requires : (t : ℕ) → walk-stmt-lts.Need-is-block-requires (walk-stmt-calls t) (walk-stmt-at t) walk-stmt.Post
+walk-stmt-is-block-requires t c κs = tt
 
 walk-stmt-sub-walk-block : (t : ℕ) → walk-stmt-lts.Need-sub-walk-block (walk-stmt-calls t) (walk-stmt-at t) walk-stmt.Post
 walk-stmt-sub-walk-block t c = omega arith
 
 walk-stmt-walk-block-requires : (t : ℕ) → walk-stmt-lts.Need-walk-block-requires (walk-stmt-calls t) (walk-stmt-at t) walk-stmt.Post
-walk-stmt-walk-block-requires t c κs =
-    let p = c .before in
-    let a₂ = p .before .before .before .before .before .before .before .before .before .before in
+walk-stmt-walk-block-requires t c κs = omega arith
+
+walk-stmt-same-length : (t : ℕ) → walk-stmt-lts.Need-same-length (walk-stmt-calls t) (walk-stmt-at t) walk-stmt.Post
+walk-stmt-same-length t c =
+    let w = c .before .before in
+    w .walk-block .kept .1 .0
+
+walk-stmt-returns-3 : (t : ℕ) → walk-stmt-lts.Need-returns-3 (walk-stmt-calls t) (walk-stmt-at t) walk-stmt.Post
+walk-stmt-returns-3 t c =
+    let w = c .before .before in
+    let b = w .before .before in
+    let o = b .before in
+    let k = o .before in
+    let a₂ = k .before .before in
     let i = a₂ .before .before in
     let i₂ = i .before in
-    let o = i₂ .before .before .before in
-    omega (arith, o .pre .0, i₂ .if1 .left, i .if2 .left, a₂ .after-row .ensures .1, scoped (p .push .ensures))
+    stmt-block _ _ _ _ _ (i₂ .if1 .left) (i .if2 .left) _ (a₂ .after-row .ensures .0) _
+    (sym (o .is-block .ensures ∙ ap isBlock (k .kind .ensures)) ∙ b .if3 .taken) (w .walk-block .ensures)
 
 walk-stmt-add-after-row : (t : ℕ) → walk-stmt-lts.Need-add-after-row (walk-stmt-calls t) (walk-stmt-at t) walk-stmt.Post
 walk-stmt-add-after-row t c = omega arith
@@ -520,6 +563,9 @@ walk-stmt-after-row-requires-2 t c κs = omega arith
 
 walk-stmt-sub-walk-expr : (t : ℕ) → walk-stmt-lts.Need-sub-walk-expr (walk-stmt-calls t) (walk-stmt-at t) walk-stmt.Post
 walk-stmt-sub-walk-expr t c = omega arith
+
+walk-stmt-no-lambdas-requires : (t : ℕ) → walk-stmt-lts.Need-no-lambdas-requires (walk-stmt-calls t) (walk-stmt-at t) walk-stmt.Post
+walk-stmt-no-lambdas-requires t c κs = tt
 
 walk-stmt-add-walk-expr : (t : ℕ) → walk-stmt-lts.Need-add-walk-expr (walk-stmt-calls t) (walk-stmt-at t) walk-stmt.Post
 walk-stmt-add-walk-expr t c = omega arith
@@ -533,8 +579,8 @@ walk-stmt-sub-walk-targets t c = omega arith
 walk-stmt-walk-targets-requires : (t : ℕ) → walk-stmt-lts.Need-walk-targets-requires (walk-stmt-calls t) (walk-stmt-at t) walk-stmt.Post
 walk-stmt-walk-targets-requires t c κs = omega arith
 
-walk-stmt-number-requires-2 : (t : ℕ) → walk-stmt-lts.Need-number-requires-2 (walk-stmt-calls t) (walk-stmt-at t) walk-stmt.Post
-walk-stmt-number-requires-2 t c κs = omega arith
+walk-stmt-number-requires : (t : ℕ) → walk-stmt-lts.Need-number-requires (walk-stmt-calls t) (walk-stmt-at t) walk-stmt.Post
+walk-stmt-number-requires t c κs = omega arith
 
 walk-stmt-add-after-row-2 : (t : ℕ) → walk-stmt-lts.Need-add-after-row-2 (walk-stmt-calls t) (walk-stmt-at t) walk-stmt.Post
 walk-stmt-add-after-row-2 t c = omega arith
@@ -545,14 +591,17 @@ walk-stmt-after-row-requires-3 t c κs = omega arith
 walk-stmt-sub-walk-expr-2 : (t : ℕ) → walk-stmt-lts.Need-sub-walk-expr-2 (walk-stmt-calls t) (walk-stmt-at t) walk-stmt.Post
 walk-stmt-sub-walk-expr-2 t c = omega arith
 
+walk-stmt-no-lambdas-requires-2 : (t : ℕ) → walk-stmt-lts.Need-no-lambdas-requires-2 (walk-stmt-calls t) (walk-stmt-at t) walk-stmt.Post
+walk-stmt-no-lambdas-requires-2 t c κs = tt
+
 walk-stmt-add-walk-expr-2 : (t : ℕ) → walk-stmt-lts.Need-add-walk-expr-2 (walk-stmt-calls t) (walk-stmt-at t) walk-stmt.Post
 walk-stmt-add-walk-expr-2 t c = omega arith
 
 walk-stmt-walk-expr-requires-2 : (t : ℕ) → walk-stmt-lts.Need-walk-expr-requires-2 (walk-stmt-calls t) (walk-stmt-at t) walk-stmt.Post
 walk-stmt-walk-expr-requires-2 t c κs = omega arith
 
-walk-stmt-define-requires-2 : (t : ℕ) → walk-stmt-lts.Need-define-requires-2 (walk-stmt-calls t) (walk-stmt-at t) walk-stmt.Post
-walk-stmt-define-requires-2 t c κs = tt
+walk-stmt-define-requires : (t : ℕ) → walk-stmt-lts.Need-define-requires (walk-stmt-calls t) (walk-stmt-at t) walk-stmt.Post
+walk-stmt-define-requires t c κs = tt
 
 walk-stmt-sub-walk-stmts : (t : ℕ) → walk-stmt-lts.Need-sub-walk-stmts (walk-stmt-calls t) (walk-stmt-at t) walk-stmt.Post
 walk-stmt-sub-walk-stmts t c = omega arith
@@ -560,11 +609,27 @@ walk-stmt-sub-walk-stmts t c = omega arith
 walk-stmt-walk-stmts-requires : (t : ℕ) → walk-stmt-lts.Need-walk-stmts-requires (walk-stmt-calls t) (walk-stmt-at t) walk-stmt.Post
 walk-stmt-walk-stmts-requires t c κs = omega arith
 
-walk-stmt-number-requires-3 : (t : ℕ) → walk-stmt-lts.Need-number-requires-3 (walk-stmt-calls t) (walk-stmt-at t) walk-stmt.Post
-walk-stmt-number-requires-3 t c κs = omega arith
+walk-stmt-number-requires-2 : (t : ℕ) → walk-stmt-lts.Need-number-requires-2 (walk-stmt-calls t) (walk-stmt-at t) walk-stmt.Post
+walk-stmt-number-requires-2 t c κs = omega arith
 
-walk-stmt-define-requires-3 : (t : ℕ) → walk-stmt-lts.Need-define-requires-3 (walk-stmt-calls t) (walk-stmt-at t) walk-stmt.Post
-walk-stmt-define-requires-3 t c κs = tt
+walk-stmt-define-requires-2 : (t : ℕ) → walk-stmt-lts.Need-define-requires-2 (walk-stmt-calls t) (walk-stmt-at t) walk-stmt.Post
+walk-stmt-define-requires-2 t c κs = tt
+
+walk-stmt-same-length-2 : (t : ℕ) → walk-stmt-lts.Need-same-length-2 (walk-stmt-calls t) (walk-stmt-at t) walk-stmt.Post
+walk-stmt-same-length-2 t c =
+    let d = c .before .before .before .before in
+    d .define2 .kept .0
+
+walk-stmt-returns-4 : (t : ℕ) → walk-stmt-lts.Need-returns-4 (walk-stmt-calls t) (walk-stmt-at t) walk-stmt.Post
+walk-stmt-returns-4 t c =
+    let d = c .before .before .before .before in
+    let n = d .before in
+    let m = n .before .before .before in
+    let k = m .before .before .before in
+    let i = k .before .before .before .before in
+    let i₂ = i .before in
+    stmt-inner-class _ _ _ _ _ (i₂ .if1 .left) (i .if2 .left) _ _ (sym (k .kind .ensures) ∙ m .match .keys3) (n .number2 .ensures)
+    (d .define2 .ensures) (c .if4 .taken)
 
 walk-stmt-sub-walk-stmts-2 : (t : ℕ) → walk-stmt-lts.Need-sub-walk-stmts-2 (walk-stmt-calls t) (walk-stmt-at t) walk-stmt.Post
 walk-stmt-sub-walk-stmts-2 t c = omega arith
@@ -575,18 +640,6 @@ walk-stmt-add-walk-stmts t c = omega arith
 walk-stmt-walk-stmts-requires-2 : (t : ℕ) → walk-stmt-lts.Need-walk-stmts-requires-2 (walk-stmt-calls t) (walk-stmt-at t) walk-stmt.Post
 walk-stmt-walk-stmts-requires-2 t c κs = omega arith
 
-walk-stmt-judge-method-requires : (t : ℕ) → walk-stmt-lts.Need-judge-method-requires (walk-stmt-calls t) (walk-stmt-at t) walk-stmt.Post
-walk-stmt-judge-method-requires t c κs = omega arith
-
-walk-stmt-sub-walk-block-2 : (t : ℕ) → walk-stmt-lts.Need-sub-walk-block-2 (walk-stmt-calls t) (walk-stmt-at t) walk-stmt.Post
-walk-stmt-sub-walk-block-2 t c = omega arith
-
-walk-stmt-push-requires-2 : (t : ℕ) → walk-stmt-lts.Need-push-requires-2 (walk-stmt-calls t) (walk-stmt-at t) walk-stmt.Post
-walk-stmt-push-requires-2 t c κs = tt
-
-walk-stmt-walk-block-requires-2 : (t : ℕ) → walk-stmt-lts.Need-walk-block-requires-2 (walk-stmt-calls t) (walk-stmt-at t) walk-stmt.Post
-walk-stmt-walk-block-requires-2 t c κs = omega (arith, scoped (c .push2 .ensures))
-
 walk-stmt-sub-walk-stmts-3 : (t : ℕ) → walk-stmt-lts.Need-sub-walk-stmts-3 (walk-stmt-calls t) (walk-stmt-at t) walk-stmt.Post
 walk-stmt-sub-walk-stmts-3 t c = omega arith
 
@@ -596,158 +649,99 @@ walk-stmt-add-walk-stmts-2 t c = omega arith
 walk-stmt-walk-stmts-requires-3 : (t : ℕ) → walk-stmt-lts.Need-walk-stmts-requires-3 (walk-stmt-calls t) (walk-stmt-at t) walk-stmt.Post
 walk-stmt-walk-stmts-requires-3 t c κs = omega arith
 
-walk-stmt-same-length : (t : ℕ) → walk-stmt-lts.Need-same-length (walk-stmt-calls t) (walk-stmt-at t) walk-stmt.Post
-walk-stmt-same-length t c =
-    let w = c .before .before in
-    let d = w .before .before .before .before .before in
-    w .walk-block .kept .1 .0 ∙ d .define .kept .1 .0
-
-walk-stmt-returns-3 : (t : ℕ) → walk-stmt-lts.Need-returns-3 (walk-stmt-calls t) (walk-stmt-at t) walk-stmt.Post
-walk-stmt-returns-3 t c =
-    let w = c .before .before in
-    let p = w .before .before in
-    let d = p .before .before .before in
-    let n = d .before in
-    let m = n .before .before .before in
-    let k = m .before in
-    let a₂ = k .before .before in
-    let i = a₂ .before .before in
-    let i₂ = i .before in
-    stmt-def _ _ _ _ _ (i₂ .if1 .left) (i .if2 .left) _ (a₂ .after-row .ensures .0) _ _ _ _ (sym (k .kind .ensures) ∙ m .match .keys1)
-    (n .number .ensures) (d .define .ensures) (p .push .ensures) (w .walk-block .ensures)
-
-walk-stmt-same-length-2 : (t : ℕ) → walk-stmt-lts.Need-same-length-2 (walk-stmt-calls t) (walk-stmt-at t) walk-stmt.Post
-walk-stmt-same-length-2 t c =
+walk-stmt-same-length-3 : (t : ℕ) → walk-stmt-lts.Need-same-length-3 (walk-stmt-calls t) (walk-stmt-at t) walk-stmt.Post
+walk-stmt-same-length-3 t c =
     let w = c .before .before in
     let w₂ = w .before .before .before .before in
     w .walk-targets .kept .1 .0 ∙ w₂ .walk-expr .kept .1 .0
 
-walk-stmt-returns-4 : (t : ℕ) → walk-stmt-lts.Need-returns-4 (walk-stmt-calls t) (walk-stmt-at t) walk-stmt.Post
-walk-stmt-returns-4 t c =
-    let w = c .before .before in
-    let w₂ = w .before .before .before .before in
-    let a₂ = w₂ .before .before in
-    let m = a₂ .before .before in
-    let k = m .before in
-    let a₃ = k .before .before in
-    let i = a₃ .before .before in
-    let i₂ = i .before in
-    stmt-assign _ _ _ _ _ (i₂ .if1 .left) (i .if2 .left) _ (a₃ .after-row .ensures .0) _ _ (a₂ .after-row2 .ensures .0)
-    (w₂ .walk-expr .ensures) _ (sym (k .kind .ensures) ∙ m .match .keys2) (w .walk-targets .ensures)
-
-walk-stmt-same-length-3 : (t : ℕ) → walk-stmt-lts.Need-same-length-3 (walk-stmt-calls t) (walk-stmt-at t) walk-stmt.Post
-walk-stmt-same-length-3 t c =
-    let w = c .before .before in
-    let d = w .before .before .before .before in
-    let w₂ = d .before .before .before .before in
-    w .walk-stmts .kept .1 .0 ∙ (d .define2 .kept .1 .0 ∙ w₂ .walk-expr2 .kept .1 .0)
-
 walk-stmt-returns-5 : (t : ℕ) → walk-stmt-lts.Need-returns-5 (walk-stmt-calls t) (walk-stmt-at t) walk-stmt.Post
 walk-stmt-returns-5 t c =
     let w = c .before .before in
-    let d = w .before .before .before .before in
-    let w₂ = d .before .before .before .before in
-    let a₂ = w₂ .before .before in
-    let n = a₂ .before .before in
-    let m = n .before .before in
-    let k = m .before in
+    let w₂ = w .before .before .before .before in
+    let n = w₂ .before in
+    let a₂ = n .before .before in
+    let m = a₂ .before .before in
+    let k = m .before .before .before in
     let a₃ = k .before .before in
     let i = a₃ .before .before in
     let i₂ = i .before in
-    stmt-for _ _ _ _ _ (i₂ .if1 .left) (i .if2 .left) _ (a₃ .after-row .ensures .0) _ _ (a₂ .after-row3 .ensures .0)
-    (w₂ .walk-expr2 .ensures) _ _ _ (sym (k .kind .ensures) ∙ m .match .keys3) (n .number2 .ensures) (d .define2 .ensures)
-    (w .walk-stmts .ensures)
+    stmt-assign _ _ _ _ _ (i₂ .if1 .left) (i .if2 .left) _ (a₃ .after-row .ensures .0) _ _ (n .no-lambdas .result) (a₂ .after-row2 .ensures .0)
+    (n .no-lambdas .ensures) (w₂ .walk-expr .ensures) _ (sym (k .kind .ensures) ∙ m .match .keys1) (w .walk-targets .ensures)
 
 walk-stmt-same-length-4 : (t : ℕ) → walk-stmt-lts.Need-same-length-4 (walk-stmt-calls t) (walk-stmt-at t) walk-stmt.Post
 walk-stmt-same-length-4 t c =
     let w = c .before .before in
-    let d = w .before .before .before .before .before .before in
-    w .walk-stmts2 .kept .1 .0 ∙ d .define3 .kept .1 .0
+    let d = w .before .before .before .before in
+    let w₂ = d .before .before .before .before in
+    w .walk-stmts .kept .1 .0 ∙ (d .define .kept .0 ∙ w₂ .walk-expr2 .kept .1 .0)
 
 walk-stmt-returns-6 : (t : ℕ) → walk-stmt-lts.Need-returns-6 (walk-stmt-calls t) (walk-stmt-at t) walk-stmt.Post
 walk-stmt-returns-6 t c =
     let w = c .before .before in
-    let i = w .before .before in
-    let d = i .before .before .before .before in
-    let n = d .before in
-    let m = n .before .before .before in
-    let k = m .before in
-    let a₂ = k .before .before in
-    let i₂ = a₂ .before .before in
-    let i₃ = i₂ .before in
-    stmt-class _ _ _ _ _ (i₃ .if1 .left) (i₂ .if2 .left) _ _ (sym (k .kind .ensures) ∙ m .match .keys4) (n .number3 .ensures)
-    (d .define3 .ensures) (i .if3 .taken) _ _ (a₂ .after-row .ensures .0) (w .walk-stmts2 .ensures)
+    let d = w .before .before .before .before in
+    let w₂ = d .before .before .before .before in
+    let o = w₂ .before in
+    let a₂ = o .before .before in
+    let n = a₂ .before .before in
+    let m = n .before .before in
+    let k = m .before .before .before in
+    let a₃ = k .before .before in
+    let i = a₃ .before .before in
+    let i₂ = i .before in
+    stmt-for _ _ _ _ _ (i₂ .if1 .left) (i .if2 .left) _ (a₃ .after-row .ensures .0) _ _ (o .no-lambdas2 .result) (a₂ .after-row3 .ensures .0)
+    (o .no-lambdas2 .ensures) (w₂ .walk-expr2 .ensures) _ _ _ (sym (k .kind .ensures) ∙ m .match .keys2) (n .number .ensures) (d .define .ensures)
+    (w .walk-stmts .ensures)
 
 walk-stmt-same-length-5 : (t : ℕ) → walk-stmt-lts.Need-same-length-5 (walk-stmt-calls t) (walk-stmt-at t) walk-stmt.Post
 walk-stmt-same-length-5 t c =
-    let d = c .before .before .before .before in
-    d .define3 .kept .1 .0
+    let w = c .before .before in
+    let d = w .before .before .before .before .before .before in
+    w .walk-stmts2 .kept .1 .0 ∙ d .define2 .kept .0
 
 walk-stmt-returns-7 : (t : ℕ) → walk-stmt-lts.Need-returns-7 (walk-stmt-calls t) (walk-stmt-at t) walk-stmt.Post
 walk-stmt-returns-7 t c =
-    let d = c .before .before .before .before in
+    let w = c .before .before in
+    let h = w .before .before in
+    let d = h .before .before .before .before in
     let n = d .before in
     let m = n .before .before .before in
-    let k = m .before in
-    let i = k .before .before .before .before in
-    let i₂ = i .before in
-    stmt-inner-class _ _ _ _ _ (i₂ .if1 .left) (i .if2 .left) _ _ (sym (k .kind .ensures) ∙ m .match .keys4) (n .number3 .ensures)
-    (d .define3 .ensures) (c .if3 .left)
-
-walk-stmt-same-length-6 : (t : ℕ) → walk-stmt-lts.Need-same-length-6 (walk-stmt-calls t) (walk-stmt-at t) walk-stmt.Post
-walk-stmt-same-length-6 t c =
-    let w = c .before .before in
-    let j = w .before .before .before .before .before in
-    w .walk-block2 .kept .1 .0 ∙ j .judge-method .kept .1 .0
-
-walk-stmt-returns-8 : (t : ℕ) → walk-stmt-lts.Need-returns-8 (walk-stmt-calls t) (walk-stmt-at t) walk-stmt.Post
-walk-stmt-returns-8 t c =
-    let w = c .before .before in
-    let p = w .before in
-    let j = p .before .before .before .before in
-    let m = j .before .before in
-    let k = m .before in
+    let k = m .before .before .before in
     let a₂ = k .before .before in
     let i = a₂ .before .before in
     let i₂ = i .before in
-    stmt-method _ _ _ _ _ (i₂ .if1 .left) (i .if2 .left) _ (a₂ .after-row .ensures .0) _ _ _ (sym (k .kind .ensures) ∙ m .match .keys5)
-    (j .judge-method .ensures) (p .push2 .ensures) (w .walk-block2 .ensures)
+    stmt-class _ _ _ _ _ (i₂ .if1 .left) (i .if2 .left) _ _ (sym (k .kind .ensures) ∙ m .match .keys3) (n .number2 .ensures)
+    (d .define2 .ensures) (h .if4 .left) _ _ (a₂ .after-row .ensures .0) (w .walk-stmts2 .ensures)
 
-walk-stmt-same-length-7 : (t : ℕ) → walk-stmt-lts.Need-same-length-7 (walk-stmt-calls t) (walk-stmt-at t) walk-stmt.Post
-walk-stmt-same-length-7 t c = refl
+walk-stmt-same-length-6 : (t : ℕ) → walk-stmt-lts.Need-same-length-6 (walk-stmt-calls t) (walk-stmt-at t) walk-stmt.Post
+walk-stmt-same-length-6 t c = refl
 
-walk-stmt-returns-9 : (t : ℕ) → walk-stmt-lts.Need-returns-9 (walk-stmt-calls t) (walk-stmt-at t) walk-stmt.Post
-walk-stmt-returns-9 t c =
-    let k = c .before in
+walk-stmt-returns-8 : (t : ℕ) → walk-stmt-lts.Need-returns-8 (walk-stmt-calls t) (walk-stmt-at t) walk-stmt.Post
+walk-stmt-returns-8 t c =
+    let k = c .before .before .before in
     let i = k .before .before .before .before in
     let i₂ = i .before in
-    stmt-attr _ _ _ _ _ (i₂ .if1 .left) (i .if2 .left) (sym (k .kind .ensures) ∙ c .match .keys6)
+    stmt-attr _ _ _ _ _ (i₂ .if1 .left) (i .if2 .left) (sym (k .kind .ensures) ∙ c .match .keys4)
 
-walk-stmt-same-length-8 : (t : ℕ) → walk-stmt-lts.Need-same-length-8 (walk-stmt-calls t) (walk-stmt-at t) walk-stmt.Post
-walk-stmt-same-length-8 t c =
+walk-stmt-same-length-7 : (t : ℕ) → walk-stmt-lts.Need-same-length-7 (walk-stmt-calls t) (walk-stmt-at t) walk-stmt.Post
+walk-stmt-same-length-7 t c =
     let w = c .before .before in
     w .walk-stmts3 .kept .1 .0
 
-walk-stmt-returns-10 : (t : ℕ) → walk-stmt-lts.Need-returns-10 (walk-stmt-calls t) (walk-stmt-at t) walk-stmt.Post
-walk-stmt-returns-10 t c =
+walk-stmt-returns-9 : (t : ℕ) → walk-stmt-lts.Need-returns-9 (walk-stmt-calls t) (walk-stmt-at t) walk-stmt.Post
+walk-stmt-returns-9 t c =
     let w = c .before .before in
     let m = w .before .before in
-    let k = m .before in
+    let b = m .before in
+    let o = b .before in
+    let k = o .before in
     let a₂ = k .before .before in
     let i = a₂ .before .before in
     let i₂ = i .before in
     stmt-other _ _ _ _ _ (i₂ .if1 .left) (i .if2 .left) _ (a₂ .after-row .ensures .0) _
-    (λ e. m .match .rest .0 .0 .0 .0 .0 .1 (k .kind .ensures ∙ e)) (λ e. m .match .rest .0 .0 .0 .0 .1 (k .kind .ensures ∙ e))
-    (λ e. m .match .rest .0 .0 .0 .1 (k .kind .ensures ∙ e)) (λ e. m .match .rest .0 .0 .1 (k .kind .ensures ∙ e))
-    (λ e. m .match .rest .0 .1 (k .kind .ensures ∙ e)) (λ e. m .match .rest .1 (k .kind .ensures ∙ e)) (w .walk-stmts3 .ensures)
-
-abbrev walk-stmts-Inv-loop : walk-stmts-lts.InvT-loop
-walk-stmts-Inv-loop text work₀ left s first stop at₀ work at =
-    (length work ≡ length work₀)
-    × (walkStmts left text s at stop work ≡ walkStmts left text s first stop work₀)
-
-abbrev walk-stmts-μ-loop : walk-stmts-lts.MeasureT-loop
-walk-stmts-μ-loop text work₀ left s first stop at₀ work at = stop - at
+    (sym (o .is-block .ensures ∙ ap isBlock (k .kind .ensures)) ∙ b .if3 .left) (λ e. m .match .rest .0 .0 .0 .1 (k .kind .ensures ∙ e))
+    (λ e. m .match .rest .0 .0 .1 (k .kind .ensures ∙ e)) (λ e. m .match .rest .0 .1 (k .kind .ensures ∙ e))
+    (λ e. m .match .rest .1 (k .kind .ensures ∙ e)) (w .walk-stmts3 .ensures)
 
 -- ---- walk_stmts
 abbrev walk-stmts-calls : ℕ → walk-stmts-lts.Claims
@@ -758,9 +752,19 @@ walk-stmts-calls t = (
   kind-reads.Learnt,
   walk-stmt-below t,
   walk-stmt.Post,
+  no-lambdas-reads.Asked,
+  no-lambdas-reads.Learnt,
   walk-expr-below t,
   walk-expr.Post,
 )
+
+abbrev walk-stmts-Inv-loop : walk-stmts-lts.InvT-loop
+walk-stmts-Inv-loop text work₀ left first stop t₀ at₀ work t at =
+    (length work ≡ length work₀)
+    × (walkStmts left text at stop (walk t work) ≡ walkStmts left text first stop (walk t₀ work₀))
+
+abbrev walk-stmts-μ-loop : walk-stmts-lts.MeasureT-loop
+walk-stmts-μ-loop text work₀ left first stop t₀ at₀ work t at = stop - at
 
 walk-stmts-loop-holds : (t : ℕ)
     → walk-stmts-lts.Need-loop-holds (walk-stmts-calls t) (walk-stmts-at t) walk-stmts.Post walk-stmts-Inv-loop walk-stmts-μ-loop
@@ -777,6 +781,10 @@ walk-stmts-kind-requires t c κs = tt
 walk-stmts-walk-stmt-requires : (t : ℕ)
     → walk-stmts-lts.Need-walk-stmt-requires (walk-stmts-calls t) (walk-stmts-at t) walk-stmts.Post walk-stmts-Inv-loop walk-stmts-μ-loop
 walk-stmts-walk-stmt-requires t c κs = omega arith
+
+walk-stmts-no-lambdas-requires : (t : ℕ)
+    → walk-stmts-lts.Need-no-lambdas-requires (walk-stmts-calls t) (walk-stmts-at t) walk-stmts.Post walk-stmts-Inv-loop walk-stmts-μ-loop
+walk-stmts-no-lambdas-requires t c κs = tt
 
 walk-stmts-walk-expr-requires : (t : ℕ)
     → walk-stmts-lts.Need-walk-expr-requires (walk-stmts-calls t) (walk-stmts-at t) walk-stmts.Post walk-stmts-Inv-loop walk-stmts-μ-loop
@@ -795,9 +803,9 @@ walk-stmts-loop-again t c =
     let l₂ = l .before in
     let a = l₂ .before .before .before .args in (
       w .walk-stmt .kept .1 .0 ∙ l₂ .loop .inv .0,
-      rows-turn afterRow (walkLine (a .left) (a .text .now) (a .s)) after-on (l₂ .loop .at) (a .stop) (a₂ .after-row .result)
-          (l₂ .loop .work) _ (l .loop-test .taken) (a₂ .after-row .ensures .0)
-          (line-stmt (a .left) (a .text .now) (a .s) (l₂ .loop .at) (l₂ .loop .work) _ (omega arith) (w .walk-stmt .ensures))
+      rows-turn nextLine (walkLine (a .left) (a .text .now)) line-on (l₂ .loop .at) (a .stop) (a₂ .after-row .result)
+          (walk (l₂ .loop .t) (l₂ .loop .work)) _ (l .loop-test .taken) (a₂ .after-row .ensures .0)
+          (line-stmt (a .left) (a .text .now) (l₂ .loop .t) (l₂ .loop .at) (l₂ .loop .work) _ (omega arith) (w .walk-stmt .ensures))
           ∙ l₂ .loop .inv .1,
     )
 
@@ -809,14 +817,16 @@ walk-stmts-loop-again-2 : (t : ℕ)
     → walk-stmts-lts.Need-loop-again-2 (walk-stmts-calls t) (walk-stmts-at t) walk-stmts.Post walk-stmts-Inv-loop walk-stmts-μ-loop
 walk-stmts-loop-again-2 t c =
     let w = c .before .before in
-    let a₂ = w .before .before .before .before .before in
+    let n = w .before in
+    let a₂ = n .before .before .before .before .before in
     let l = a₂ .before .before in
     let l₂ = l .before in
     let a = l₂ .before .before .before .args in (
       w .walk-expr .kept .1 .0 ∙ l₂ .loop .inv .0,
-      rows-turn afterRow (walkLine (a .left) (a .text .now) (a .s)) after-on (l₂ .loop .at) (a .stop) (a₂ .after-row .result)
-          (l₂ .loop .work) _ (l .loop-test .taken) (a₂ .after-row .ensures .0)
-          (line-expr (a .left) (a .text .now) (a .s) (l₂ .loop .at) (l₂ .loop .work) _ (omega arith) (w .walk-expr .ensures))
+      rows-turn nextLine (walkLine (a .left) (a .text .now)) line-on (l₂ .loop .at) (a .stop) (a₂ .after-row .result)
+          (walk (l₂ .loop .t) (l₂ .loop .work)) _ (l .loop-test .taken) (a₂ .after-row .ensures .0)
+          (line-expr (a .left) (a .text .now) (l₂ .loop .t) (l₂ .loop .at) (l₂ .loop .work) (n .no-lambdas .result) _ (omega arith)
+          (n .no-lambdas .ensures) (w .walk-expr .ensures))
           ∙ l₂ .loop .inv .1,
     )
 
@@ -831,7 +841,7 @@ walk-stmts-returns : (t : ℕ)
 walk-stmts-returns t c =
     let l = c .before in
     let a = l .before .before .before .args in
-    sym (rows-end afterRow (walkLine (a .left) (a .text .now) (a .s)) (l .loop .at) (a .stop) (l .loop .work) (c .loop-test .left)) ∙ l
+    sym (rows-end nextLine (walkLine (a .left) (a .text .now)) (l .loop .at) (a .stop) (walk (l .loop .t) (l .loop .work)) (c .loop-test .left)) ∙ l
     .loop .inv .1
 
 -- ---- walk_target
@@ -843,6 +853,8 @@ walk-target-calls t = (
   number-reads.Learnt,
   define-reads.Asked,
   define-reads.Learnt,
+  no-lambdas-reads.Asked,
+  no-lambdas-reads.Learnt,
   after-row-reads.Asked,
   after-row-reads.Learnt,
   walk-exprs-below t,
@@ -860,6 +872,9 @@ walk-target-number-requires t c κs = omega arith
 walk-target-define-requires : (t : ℕ) → walk-target-lts.Need-define-requires (walk-target-calls t) (walk-target-at t) walk-target.Post
 walk-target-define-requires t c κs = tt
 
+walk-target-no-lambdas-requires : (t : ℕ) → walk-target-lts.Need-no-lambdas-requires (walk-target-calls t) (walk-target-at t) walk-target.Post
+walk-target-no-lambdas-requires t c κs = tt
+
 walk-target-add-walk-exprs : (t : ℕ) → walk-target-lts.Need-add-walk-exprs (walk-target-calls t) (walk-target-at t) walk-target.Post
 walk-target-add-walk-exprs t c = omega arith
 
@@ -868,6 +883,9 @@ walk-target-after-row-requires t c κs = omega arith
 
 walk-target-walk-exprs-requires : (t : ℕ) → walk-target-lts.Need-walk-exprs-requires (walk-target-calls t) (walk-target-at t) walk-target.Post
 walk-target-walk-exprs-requires t c κs = omega arith
+
+walk-target-no-lambdas-requires-2 : (t : ℕ) → walk-target-lts.Need-no-lambdas-requires-2 (walk-target-calls t) (walk-target-at t) walk-target.Post
+walk-target-no-lambdas-requires-2 t c κs = tt
 
 walk-target-add-walk-exprs-2 : (t : ℕ) → walk-target-lts.Need-add-walk-exprs-2 (walk-target-calls t) (walk-target-at t) walk-target.Post
 walk-target-add-walk-exprs-2 t c = omega arith
@@ -884,7 +902,7 @@ walk-target-put-slot-requires t c κs = omega arith
 walk-target-same-length : (t : ℕ) → walk-target-lts.Need-same-length (walk-target-calls t) (walk-target-at t) walk-target.Post
 walk-target-same-length t c =
     let d = c .before .before in
-    d .define .kept .1 .0
+    d .define .kept .0
 
 walk-target-returns : (t : ℕ) → walk-target-lts.Need-returns (walk-target-calls t) (walk-target-at t) walk-target.Post
 walk-target-returns t c =
@@ -892,7 +910,8 @@ walk-target-returns t c =
     let n = d .before in
     let m = n .before .before .before in
     let k = m .before in
-    target-var _ _ _ _ _ _ (sym (k .kind .ensures) ∙ m .match .keys1) (n .number .ensures) (d .define .ensures)
+    let a = k .before .before .before .before .args in
+    target-var (a .left) (a .text .now) (a .s) (a .i) (a .work .now) _ _ (sym (k .kind .ensures) ∙ m .match .keys1) (n .number .ensures) (d .define .ensures)
 
 walk-target-same-length-2 : (t : ℕ) → walk-target-lts.Need-same-length-2 (walk-target-calls t) (walk-target-at t) walk-target.Post
 walk-target-same-length-2 t c = refl
@@ -900,7 +919,8 @@ walk-target-same-length-2 t c = refl
 walk-target-returns-2 : (t : ℕ) → walk-target-lts.Need-returns-2 (walk-target-calls t) (walk-target-at t) walk-target.Post
 walk-target-returns-2 t c =
     let k = c .before in
-    target-tuple _ _ _ _ (sym (k .kind .ensures) ∙ c .match .keys2)
+    let a = k .before .before .before .before .args in
+    target-tuple (a .left) (a .text .now) (a .s) (a .i) (a .work .now) (sym (k .kind .ensures) ∙ c .match .keys2)
 
 walk-target-same-length-3 : (t : ℕ) → walk-target-lts.Need-same-length-3 (walk-target-calls t) (walk-target-at t) walk-target.Post
 walk-target-same-length-3 t c =
@@ -911,9 +931,12 @@ walk-target-returns-3 : (t : ℕ) → walk-target-lts.Need-returns-3 (walk-targe
 walk-target-returns-3 t c =
     let w = c .before .before in
     let a₂ = w .before in
-    let m = a₂ .before .before .before in
+    let n = a₂ .before .before in
+    let m = n .before .before in
     let k = m .before in
-    target-index _ _ _ _ _ _ (a₂ .after-row .ensures .0) (w .walk-exprs .ensures) (sym (k .kind .ensures) ∙ m .match .keys3)
+    let a = k .before .before .before .before .args in
+    target-index (a .left) (a .text .now) (a .s) (a .i) (a .work .now) (n .no-lambdas .result) (n .no-lambdas .ensures) _ _
+    (a₂ .after-row .ensures .0) (w .walk-exprs .ensures) (sym (k .kind .ensures) ∙ m .match .keys3)
 
 walk-target-same-length-4 : (t : ℕ) → walk-target-lts.Need-same-length-4 (walk-target-calls t) (walk-target-at t) walk-target.Post
 walk-target-same-length-4 t c =
@@ -924,9 +947,12 @@ walk-target-returns-4 : (t : ℕ) → walk-target-lts.Need-returns-4 (walk-targe
 walk-target-returns-4 t c =
     let w = c .before .before in
     let a₂ = w .before in
-    let m = a₂ .before .before .before in
+    let n = a₂ .before .before in
+    let m = n .before .before in
     let k = m .before in
-    target-get _ _ _ _ _ _ (a₂ .after-row2 .ensures .0) (w .walk-exprs2 .ensures) (sym (k .kind .ensures) ∙ m .match .keys4)
+    let a = k .before .before .before .before .args in
+    target-get (a .left) (a .text .now) (a .s) (a .i) (a .work .now) (n .no-lambdas2 .result) (n .no-lambdas2 .ensures) _ _
+    (a₂ .after-row2 .ensures .0) (w .walk-exprs2 .ensures) (sym (k .kind .ensures) ∙ m .match .keys4)
 
 walk-target-same-length-5 : (t : ℕ) → walk-target-lts.Need-same-length-5 (walk-target-calls t) (walk-target-at t) walk-target.Post
 walk-target-same-length-5 t c =
@@ -938,20 +964,23 @@ walk-target-returns-5 t c =
     let p = c .before .before in
     let m = p .before .before in
     let k = m .before in
-    target-none _ _ _ _ _ (λ e. m .match .rest .0 .0 .0 .1 (k .kind .ensures ∙ e)) (λ e. m .match .rest .0 .0 .1 (k .kind .ensures ∙ e))
-    (λ e. m .match .rest .0 .1 (k .kind .ensures ∙ e)) (λ e. m .match .rest .1 (k .kind .ensures ∙ e)) (p .put-slot .ensures)
-
-abbrev walk-targets-Inv-loop : walk-targets-lts.InvT-loop
-walk-targets-Inv-loop text work₀ left s first stop at₀ work at =
-    (length work ≡ length work₀)
-    × (rowsTo nextTarget (targetAt (walkExpr left text false s) s) at stop work ≡ rowsTo nextTarget (targetAt (walkExpr left text false s) s) first stop work₀)
-
-abbrev walk-targets-μ-loop : walk-targets-lts.MeasureT-loop
-walk-targets-μ-loop text work₀ left s first stop at₀ work at = stop - at
+    let a = k .before .before .before .before .args in
+    target-none (a .left) (a .text .now) (a .s) (a .i) (a .work .now) _ (λ e. m .match .rest .0 .0 .0 .1 (k .kind .ensures ∙ e))
+    (λ e. m .match .rest .0 .0 .1 (k .kind .ensures ∙ e)) (λ e. m .match .rest .0 .1 (k .kind .ensures ∙ e))
+    (λ e. m .match .rest .1 (k .kind .ensures ∙ e)) (p .put-slot .ensures)
 
 -- ---- walk_targets
 abbrev walk-targets-calls : ℕ → walk-targets-lts.Claims
 walk-targets-calls t = (next-target-reads.Asked, next-target-reads.Learnt, walk-target-below t, walk-target.Post)
+
+abbrev walk-targets-Inv-loop : walk-targets-lts.InvT-loop
+walk-targets-Inv-loop text work₀ left s first stop at₀ work at =
+    (length work ≡ length work₀)
+    × (rowsTo nextTarget (targetAt (walkExpr left text false (topOf s)) (topOf s)) at stop work
+    ≡ rowsTo nextTarget (targetAt (walkExpr left text false (topOf s)) (topOf s)) first stop work₀)
+
+abbrev walk-targets-μ-loop : walk-targets-lts.MeasureT-loop
+walk-targets-μ-loop text work₀ left s first stop at₀ work at = stop - at
 
 walk-targets-loop-holds : (t : ℕ)
     → walk-targets-lts.Need-loop-holds (walk-targets-calls t) (walk-targets-at t) walk-targets.Post walk-targets-Inv-loop walk-targets-μ-loop
@@ -978,7 +1007,7 @@ walk-targets-loop-again t c =
     let l₂ = l .before in
     let a = l₂ .before .before .before .args in (
       w .walk-target .kept .1 .0 ∙ l₂ .loop .inv .0,
-      rows-turn nextTarget (targetAt (walkExpr (a .left) (a .text .now) false (a .s)) (a .s)) target-on (l₂ .loop .at) (a .stop)
+      rows-turn nextTarget (targetAt (walkExpr (a .left) (a .text .now) false (topOf (a .s))) (topOf (a .s))) target-on (l₂ .loop .at) (a .stop)
           (n .next-target .result) (l₂ .loop .work) _ (l .loop-test .taken) (n .next-target .ensures .0) (w .walk-target .ensures)
           ∙ l₂ .loop .inv .1,
     )
@@ -995,7 +1024,8 @@ walk-targets-returns t c =
     let l = c .before in
     let a = l .before .before .before .args in
     sym
-    (rows-end nextTarget (targetAt (walkExpr (a .left) (a .text .now) false (a .s)) (a .s)) (l .loop .at) (a .stop) (l .loop .work) (c .loop-test .left))
+    (rows-end nextTarget (targetAt (walkExpr (a .left) (a .text .now) false (topOf (a .s))) (topOf (a .s))) (l .loop .at) (a .stop) (l .loop .work)
+    (c .loop-test .left))
     ∙ l .loop .inv .1
 
 pub +walk-block+walk-expr+walk-exprs+walk-line+walk-stmt+walk-stmts+walk-target+walk-targets-spec :
@@ -1013,9 +1043,13 @@ pub +walk-block+walk-expr+walk-exprs+walk-line+walk-stmt+walk-stmts+walk-target+
     (λ t. walk-block-lts.spec (walk-block-calls t)
     (walk-block-at t)
     walk-block.Post
-    (walk-block-open-requires t)
+    (walk-block-walk-head-requires t)
+    (walk-block-push-requires t)
+    (walk-block-no-lambdas-requires t)
+    (walk-block-enter-block-requires t)
     (walk-block-add-walk-stmts t)
     (walk-block-walk-stmts-requires t)
+    (walk-block-pop-requires t)
     (walk-block-same-length t)
     (walk-block-returns t))
     (λ t. walk-expr-lts.spec (walk-expr-calls t)
@@ -1026,7 +1060,7 @@ pub +walk-block+walk-expr+walk-exprs+walk-line+walk-stmt+walk-stmts+walk-target+
     (walk-expr-after-row-requires t)
     (walk-expr-kind-requires t)
     (walk-expr-number-requires t)
-    (walk-expr-read-requires t)
+    (walk-expr-judge-read-requires t)
     (walk-expr-add-after-row t)
     (walk-expr-after-row-requires-2 t)
     (walk-expr-sub-walk-expr t)
@@ -1034,8 +1068,8 @@ pub +walk-block+walk-expr+walk-exprs+walk-line+walk-stmt+walk-stmts+walk-target+
     (walk-expr-walk-expr-requires t)
     (walk-expr-sub-walk-exprs t)
     (walk-expr-walk-exprs-requires t)
-    (walk-expr-push-lambda-requires t)
-    (walk-expr-open-requires t)
+    (walk-expr-within-requires t)
+    (walk-expr-enter-block-requires t)
     (walk-expr-sub-walk-line t)
     (walk-expr-add-walk-line t)
     (walk-expr-walk-line-requires t)
@@ -1066,7 +1100,8 @@ pub +walk-block+walk-expr+walk-exprs+walk-line+walk-stmt+walk-stmts+walk-target+
     (walk-line-at t)
     walk-line.Post
     (walk-line-kind-requires t)
-    (walk-line-walk-stmt-requires t)
+    (walk-line-add-walk-stmts t)
+    (walk-line-walk-stmts-requires t)
     (walk-line-walk-expr-requires t)
     (walk-line-same-length t)
     (walk-line-returns t)
@@ -1079,43 +1114,39 @@ pub +walk-block+walk-expr+walk-exprs+walk-line+walk-stmt+walk-stmts+walk-target+
     (walk-stmt-returns-2 t)
     (walk-stmt-after-row-requires t)
     (walk-stmt-kind-requires t)
-    (walk-stmt-number-requires t)
-    (walk-stmt-define-requires t)
-    (walk-stmt-push-requires t)
+    (walk-stmt-is-block-requires t)
     (walk-stmt-sub-walk-block t)
     (walk-stmt-walk-block-requires t)
+    (walk-stmt-same-length t)
+    (walk-stmt-returns-3 t)
     (walk-stmt-add-after-row t)
     (walk-stmt-after-row-requires-2 t)
     (walk-stmt-sub-walk-expr t)
+    (walk-stmt-no-lambdas-requires t)
     (walk-stmt-add-walk-expr t)
     (walk-stmt-walk-expr-requires t)
     (walk-stmt-sub-walk-targets t)
     (walk-stmt-walk-targets-requires t)
-    (walk-stmt-number-requires-2 t)
+    (walk-stmt-number-requires t)
     (walk-stmt-add-after-row-2 t)
     (walk-stmt-after-row-requires-3 t)
     (walk-stmt-sub-walk-expr-2 t)
+    (walk-stmt-no-lambdas-requires-2 t)
     (walk-stmt-add-walk-expr-2 t)
     (walk-stmt-walk-expr-requires-2 t)
-    (walk-stmt-define-requires-2 t)
+    (walk-stmt-define-requires t)
     (walk-stmt-sub-walk-stmts t)
     (walk-stmt-walk-stmts-requires t)
-    (walk-stmt-number-requires-3 t)
-    (walk-stmt-define-requires-3 t)
+    (walk-stmt-number-requires-2 t)
+    (walk-stmt-define-requires-2 t)
+    (walk-stmt-same-length-2 t)
+    (walk-stmt-returns-4 t)
     (walk-stmt-sub-walk-stmts-2 t)
     (walk-stmt-add-walk-stmts t)
     (walk-stmt-walk-stmts-requires-2 t)
-    (walk-stmt-judge-method-requires t)
-    (walk-stmt-sub-walk-block-2 t)
-    (walk-stmt-push-requires-2 t)
-    (walk-stmt-walk-block-requires-2 t)
     (walk-stmt-sub-walk-stmts-3 t)
     (walk-stmt-add-walk-stmts-2 t)
     (walk-stmt-walk-stmts-requires-3 t)
-    (walk-stmt-same-length t)
-    (walk-stmt-returns-3 t)
-    (walk-stmt-same-length-2 t)
-    (walk-stmt-returns-4 t)
     (walk-stmt-same-length-3 t)
     (walk-stmt-returns-5 t)
     (walk-stmt-same-length-4 t)
@@ -1125,9 +1156,7 @@ pub +walk-block+walk-expr+walk-exprs+walk-line+walk-stmt+walk-stmts+walk-target+
     (walk-stmt-same-length-6 t)
     (walk-stmt-returns-8 t)
     (walk-stmt-same-length-7 t)
-    (walk-stmt-returns-9 t)
-    (walk-stmt-same-length-8 t)
-    (walk-stmt-returns-10 t))
+    (walk-stmt-returns-9 t))
     (λ t. walk-stmts-lts.spec (walk-stmts-calls t)
     (walk-stmts-at t)
     walk-stmts.Post
@@ -1137,6 +1166,7 @@ pub +walk-block+walk-expr+walk-exprs+walk-line+walk-stmt+walk-stmts+walk-target+
     (walk-stmts-after-row-requires t)
     (walk-stmts-kind-requires t)
     (walk-stmts-walk-stmt-requires t)
+    (walk-stmts-no-lambdas-requires t)
     (walk-stmts-walk-expr-requires t)
     (walk-stmts-loop-less t)
     (walk-stmts-loop-again t)
@@ -1150,9 +1180,11 @@ pub +walk-block+walk-expr+walk-exprs+walk-line+walk-stmt+walk-stmts+walk-target+
     (walk-target-kind-requires t)
     (walk-target-number-requires t)
     (walk-target-define-requires t)
+    (walk-target-no-lambdas-requires t)
     (walk-target-add-walk-exprs t)
     (walk-target-after-row-requires t)
     (walk-target-walk-exprs-requires t)
+    (walk-target-no-lambdas-requires-2 t)
     (walk-target-add-walk-exprs-2 t)
     (walk-target-after-row-requires-2 t)
     (walk-target-walk-exprs-requires-2 t)

@@ -1,14 +1,13 @@
 -- The module's scope, the given names, and the statements.
 use native.Mathlib.Omega.{arith}
-use mathlib.Core.Path.{ap, _∙_}
-use Rattle.walk_scopes.specs.declared.ScopeStack.{ScopeStack}
+use mathlib.Core.Path.{_∙_}
 use Rattle.walk_tree.proofs.Ways.{walk-whole}
 use Rattle.walk_tree.proofs.walk.Statement.{statement}
 use Rattle.walk_tree.proofs.walk.Tie as tie
 
 new-requires : tie.Need-new-requires
 new-requires c κs =
-    tt
+    omega arith
 
 bind-given-requires : tie.Need-bind-given-requires
 bind-given-requires c κs =
@@ -16,8 +15,7 @@ bind-given-requires c κs =
 
 walk-stmts-requires : tie.Need-walk-stmts-requires
 walk-stmts-requires c κs =
-    let n = c .before .before .before .before .before in
-    omega (arith, ap (λ (u : ScopeStack). u .block) (n .new .ensures), ap (λ (u : ScopeStack). u .end) (n .new .ensures))
+    omega arith
 
 same-length : tie.Need-same-length
 same-length c =
@@ -31,7 +29,7 @@ returns c =
     let b = w .before .before .before .before in
     let n = b .before .before in
     let a = n .before .before .before .args in
-    walk-whole (a .text .now) (a .globals) (a .rows) _ (a .work .now) _ _ (n .new .ensures) (b .bind-given .ensures) (w .walk-stmts .ensures)
+    walk-whole (a .text .now) (a .globals) (a .rows) _ _ (a .work .now) _ _ (n .new .ensures) (b .bind-given .ensures) (w .walk-stmts .ensures)
 
 pub walk-spec : {M : Type 1} → statement M
 walk-spec =

@@ -34,7 +34,7 @@ returns c =
     let p = c .before .before in
     let g = p .before .before in
     let a = g .before .before .before .args in
-    p .put .ensures ∙ ap (λ x. put (a .work .now) (12_288 + a .i) (x % 8_192 + 8_192 * (a .flag % 4))) (g .get .ensures .0)
+    p .put .ensures ∙ ap (λ x. put (a .work .now) (12_288 + a .i) (x % 8_192 + 8_192 * (a .flag % 524_288))) (g .get .ensures .0)
 
 pub put-flag-spec : {M : Type 1} → statement M
 put-flag-spec =
