@@ -34,7 +34,7 @@ extern "C" {
  * @{ */
 #define SERDUZHAP_VERSION_MAJOR 1
 #define SERDUZHAP_VERSION_MINOR 0
-#define SERDUZHAP_VERSION_PATCH 1
+#define SERDUZHAP_VERSION_PATCH 2
 /** @} */
 
 /** @name The first number of an answer
@@ -105,7 +105,7 @@ extern "C" {
 #define SERDUZHAP_LONGEST_TEXT 65536   /**< bytes; a longer text is refused */
 #define SERDUZHAP_LONGEST_NAME 63      /**< bytes */
 #define SERDUZHAP_LONGEST_MESSAGE 183  /**< bytes: no message is longer */
-#define SERDUZHAP_STACK 26624          /**< bytes of stack that any call takes at most, on x86-64 */
+#define SERDUZHAP_STACK 30720          /**< bytes of stack that any call takes at most, on x86-64 */
 /** @} */
 
 /**

@@ -29,6 +29,9 @@ WALK = 'walk_tree'
 HEADS = ('walk_stmt', 'walk_expr')
 LEVELS = int(re.findall(r'^deepest = (\d+)$', (ROOT / 'crates/spec_text/specs/Reading.antt').read_text(), re.M)[0])
 
+# A list of one row, which the caller has found to be a statement's: the list calls the function for that row, and no other.
+ONE_ROW = {('walk_line', 'walk_stmts'): 'walk_stmt'}
+
 # What the maker links.
 MEMORY = ('memcpy', 'memmove', 'memset')
 
@@ -52,6 +55,10 @@ def source_calls() -> dict[str, set[str]]:
         raise Unknown('%s: a function that is not laid out as the others' % WALK)
     if lost := set(HEADS) - set(bodies):
         raise Unknown('%s has no %s' % (WALK, ', '.join(sorted(lost))))
+    for (name, list_of), one in ONE_ROW.items():
+        if not re.search(r'\b%s\(' % list_of, bodies[name]):
+            raise Unknown('%s: %s calls no %s' % (WALK, name, list_of))
+        bodies[name] = re.sub(r'\b%s\(' % list_of, one + '(', bodies[name])
     return {name: {other for other in bodies if re.search(r'\b%s\(' % other, body)}
             for name, body in bodies.items()}
 

@@ -40,7 +40,7 @@ pub use answers::{Check, NoMessage, NoReport, Reason, Refusal};
 pub use record::{Kind, Message, Part, Record, Records};
 
 /// The version of the header that this crate is for: major, minor, patch.
-pub const VERSION: (u32, u32, u32) = (1, 0, 1);
+pub const VERSION: (u32, u32, u32) = (1, 0, 2);
 
 /// The numbers of a work buffer, at least.
 pub const WORK: usize = 16_384;

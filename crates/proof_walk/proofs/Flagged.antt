@@ -19,14 +19,15 @@ use Rattle.work_rows.specs.Layout.{kindAt, numberAt}
 use Rattle.work_rows.specs.Rows.{Row, row, rowsE, rowsEs, rowsS, rowsSs}
 use Rattle.work_rows.proofs.Lengths.{Sized, under, both, sized-e, sized-es, sized-s, sized-ss}
 use Rattle.work_rows.proofs.Loops.{rows-end}
-use Rattle.work_marks.specs.MarksModel.{lambdaEnd, blockEnd, slotAt, stampAt, flagAt, putFlag}
-use Rattle.work_marks.proofs.Writes.{Words, Kept, kept-refl, kept-trans, flag-same, flag-other, flag-stamp, fourth-lambda, fourth-block, fourth-slot, kept-fourth, words-fourth}
+use Rattle.work_marks.specs.MarksModel.{stampAt, flagAt, putFlag}
+use Rattle.work_marks.proofs.Writes.{flag-same, flag-other, flag-stamp}
 use Rattle.walk_own_names.specs.OwnNamesModel.{flagFor, rowFlagged, nextInBlock, allFlagged}
 use Rattle.walk_own_names.proofs.Ways.{block-past, block-next, flagged-var, flagged-none, flags-more}
 use Rattle.read_tree.specs.Laid.{noRow}
 use Rattle.read_row.specs.Worded.{Some, WordedE, WordedEs, WordedS, WordedSs}
 use Rattle.proof_walk.specs.Table.{Table, Here}
 use Rattle.proof_walk.specs.Notes.{Note, OwnNames, flagOf, Told, ToldS, ToldSs}
+use Rattle.proof_walk.proofs.Fourths.{Fourths, fourths-refl, fourths-trans, fourths-put}
 use Rattle.proof_walk.proofs.PartRows.{head-row, here-tail, here-left, here-past, row-few, row-kind, row-after, row-number, row-small, table-kept}
 use Rattle.proof_walk.proofs.WordTests.{node-test, access-test, simple-test, block-test}
 
@@ -66,34 +67,17 @@ mutual
 
 -- ---- what a flag at row i leaves: from row i up to row j flags were written, and nothing else
 pub record Flagging (i j : ℕ) (w z : List ℕ) : Type 0 where
-  pub kept : Kept w z
-  pub words : Words w → Words z
-  pub lambda : (a : ℕ) → a < 4_096 → lambdaEnd z a ≡ lambdaEnd w a
-  pub block : (a : ℕ) → a < 4_096 → blockEnd z a ≡ blockEnd w a
-  pub slot : (k : ℕ) → k < 4_096 → slotAt z k ≡ slotAt w k
+  pub others : Fourths w z
   pub stamp : (a : ℕ) → stampAt z a ≡ stampAt w a
   pub before : (k : ℕ) → k < i → flagAt z k ≡ flagAt w k
   pub beyond : (k : ℕ) → j ≤ k → flagAt z k ≡ flagAt w k
 
 flagging-none : (i j : ℕ) (w : List ℕ) → Flagging i j w w
-flagging-none i j w = record {
-  kept = kept-refl w;
-  words = λ h. h;
-  lambda = λ _ _. refl;
-  block = λ _ _. refl;
-  slot = λ _ _. refl;
-  stamp = λ _. refl;
-  before = λ _ _. refl;
-  beyond = λ _ _. refl;
-}
+flagging-none i j w = record { others = fourths-refl w; stamp = λ _. refl; before = λ _ _. refl; beyond = λ _ _. refl }
 
 flagging-one : (i f : ℕ) (w : List ℕ) → Flagging i (suc i) w (putFlag w i f)
 flagging-one i f w = record {
-  kept = kept-fourth w i _;
-  words = words-fourth w i _;
-  lambda = fourth-lambda w i _;
-  block = fourth-block w i _;
-  slot = fourth-slot w i _;
+  others = fourths-put w i _;
   stamp = flag-stamp w i f;
   before = λ k l. flag-other w i f k (λ q. omega arith);
   beyond = λ k l. flag-other w i f k (λ q. omega arith);
@@ -101,11 +85,7 @@ flagging-one i f w = record {
 
 flagging-two : {i j m : ℕ} {w y z : List ℕ} → i ≤ j → j ≤ m → Flagging i j w y → Flagging j m y z → Flagging i m w z
 flagging-two a b p q = record {
-  kept = kept-trans (p .kept) (q .kept);
-  words = λ h. q .words (p .words h);
-  lambda = λ k l. q .lambda k l ∙ p .lambda k l;
-  block = λ k l. q .block k l ∙ p .block k l;
-  slot = λ k l. q .slot k l ∙ p .slot k l;
+  others = fourths-trans (p .others) (q .others);
   stamp = λ k. q .stamp k ∙ p .stamp k;
   before = λ k l. q .before k (omega arith) ∙ p .before k l;
   beyond = λ k l. q .beyond k l ∙ p .beyond k (omega arith);
@@ -220,7 +200,7 @@ module _ (text : Bytes) (rows : List Row) (num : Bytes → ℕ) (b : ℕ) (ns : 
       let one = comes-row x p t right h (omega arith) in
       let e : suc i + length part ≡ i + suc (length part) = omega arith in
       comes-as refl (λ g q k a c. both g q k a c (eqb k i) refl)
-      (comes-two one (comes-rows part (suc i) ps (table-kept (one .does .kept) t) (right-on (one .does) right) (here-tail h) (omega arith)) e)
+      (comes-two one (comes-rows part (suc i) ps (table-kept (one .does .others .kept) t) (right-on (one .does) right) (here-tail h) (omega arith)) e)
     where
       both : (g : ℕ → ℕ) → Told rows (with g) i (suc i) × Told rows (with g) (suc i) (suc i + length part) → (k : ℕ) → i ≤ k → k < i + suc (length part) → (s : Bool) → eqb k i ≡ s
           → getD rows k noRow .line .word ≡ 17 → g k ≡ flagOf ns (getD rows k noRow .line .name .bytes) k
@@ -249,23 +229,23 @@ module _ (text : Bytes) (rows : List Row) (num : Bytes → ℕ) (b : ℕ) (ns : 
         comes-part (under (both (sized-e e) (sized-e g))) i (also (plain-by (row l _) (ap other (d .0))) (all-append (plain-e e (d .1 .0)) (plain-e g (d .1 .1)))) t r h m
     flags-s (block l c s) i t r d h m =
         let a = flags-head l c (lenE c + lenSs s) (rowsSs s) i t r (block-test other refl (d .0)) (d .1 .0) h (omega arith) in
-        comes-two a (flags-ss s (suc i + lenE c) (table-kept (a .does .kept) t) (right-on (a .does) r) (d .1 .1) (here-past (sized-e c) (rowsSs s) (here-tail h)) (omega arith)) (omega arith)
+        comes-two a (flags-ss s (suc i + lenE c) (table-kept (a .does .others .kept) t) (right-on (a .does) r) (d .1 .1) (here-past (sized-e c) (rowsSs s) (here-tail h)) (omega arith)) (omega arith)
     flags-s (choice l c s k e) i t r d h m =
         let rest : Here rows (suc i + lenE c) (rowsSs s ++ (rowsSs k ++ rowsSs e)) = here-past (sized-e c) (rowsSs s ++ (rowsSs k ++ rowsSs e)) (here-tail h) in
         let last : Here rows (suc i + lenE c + lenSs s) (rowsSs k ++ rowsSs e) = here-past (sized-ss s) (rowsSs k ++ rowsSs e) rest in
         let a = flags-head l c (lenE c + (lenSs s + (lenSs k + lenSs e))) (rowsSs s ++ (rowsSs k ++ rowsSs e)) i t r (ap other (d .0)) (d .1 .0) h (omega arith) in
-        let t₁ = table-kept (a .does .kept) t in
+        let t₁ = table-kept (a .does .others .kept) t in
         let r₁ = right-on (a .does) r in
         let f = flags-ss s (suc i + lenE c) t₁ r₁ (d .1 .1 .0) (here-left (rowsSs s) (rowsSs k ++ rowsSs e) rest) (omega arith) in
-        let t₂ = table-kept (f .does .kept) t₁ in
+        let t₂ = table-kept (f .does .others .kept) t₁ in
         let r₂ = right-on (f .does) r₁ in
         let v = flags-ss k (suc i + lenE c + lenSs s) t₂ r₂ (d .1 .1 .1 .0) (here-left (rowsSs k) (rowsSs e) last) (omega arith) in
         comes-two a (comes-two f (comes-two v
-        (flags-ss e (suc i + lenE c + lenSs s + lenSs k) (table-kept (v .does .kept) t₂) (right-on (v .does) r₂) (d .1 .1 .1 .1) (here-past (sized-ss k) (rowsSs e) last) (omega arith))
+        (flags-ss e (suc i + lenE c + lenSs s + lenSs k) (table-kept (v .does .others .kept) t₂) (right-on (v .does) r₂) (d .1 .1 .1 .1) (here-past (sized-ss k) (rowsSs e) last) (omega arith))
         refl) refl) (omega arith)
     flags-s (for l e s) i t r d h m =
         let a = flags-head l e (lenE e + lenSs s) (rowsSs s) i t r (ap other (d .0)) (d .1 .1 .0) h (omega arith) in
-        comes-two a (flags-ss s (suc i + lenE e) (table-kept (a .does .kept) t) (right-on (a .does) r) (d .1 .1 .1) (here-past (sized-e e) (rowsSs s) (here-tail h)) (omega arith)) (omega arith)
+        comes-two a (flags-ss s (suc i + lenE e) (table-kept (a .does .others .kept) t) (right-on (a .does) r) (d .1 .1 .1) (here-past (sized-e e) (rowsSs s) (here-tail h)) (omega arith)) (omega arith)
     flags-s (def l s) i t r d h m = comes-past t h (inl (d .0)) m
     flags-s (class l ms ats) i t r d h m = comes-past t h (inr (d .0)) m
 
@@ -273,7 +253,7 @@ module _ (text : Bytes) (rows : List Row) (num : Bytes → ℕ) (b : ℕ) (ns : 
     flags-ss snil i t r d h m = comes-none i
     flags-ss (scons s ss) i t r d h m =
         let a = flags-s s i t r (d .0) (here-left (rowsS s) (rowsSs ss) h) (omega arith) in
-        comes-two a (flags-ss ss (i + lenS s) (table-kept (a .does .kept) t) (right-on (a .does) r) (d .1) (here-past (sized-s s) (rowsSs ss) h) (omega arith)) (omega arith)
+        comes-two a (flags-ss ss (i + lenS s) (table-kept (a .does .others .kept) t) (right-on (a .does) r) (d .1) (here-past (sized-s s) (rowsSs ss) h) (omega arith)) (omega arith)
 
 -- ---- a whole body: z is the buffer after the loop
 pub record Flagged (rows : List Row) (ns : List Note) (ss : Stmts) (i : ℕ) (w z : List ℕ) : Type 0 where

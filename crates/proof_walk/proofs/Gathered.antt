@@ -76,7 +76,7 @@ module _ (text : Bytes) (rows : List Row) (num : Bytes → ℕ) (op : ℕ → �
   comes-note {w} {i} {j} n l p q = record { same = sym (bindings-more op i stop j w (op (num (n .name .bytes)) (n .from) w) l (sym p) (sym q)) }
 
   kept-table : {w : List ℕ} (ns : List Note) → Table text rows num w → Table text rows num (doAll num op ns w)
-  kept-table {w} ns t = table-kept (restamped-all num op one ns w .kept) t
+  kept-table {w} ns t = table-kept (restamped-all num op one ns w .others .kept) t
 
   -- ---- a line's row
   module _ {w : List ℕ} (t : Table text rows num w) {i n : ℕ} {l : Line} {part : List Row} (h : Here rows i (row l n ∷ part)) where

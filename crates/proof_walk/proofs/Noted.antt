@@ -13,50 +13,26 @@ use Rattle.spec_text.specs.Bytes.{Bytes, Part, same}
 use Rattle.spec_text.proofs.Lists.{same-eq, same-false}
 use Rattle.work_rows.specs.Layout.{rowsMost}
 use Rattle.spec_faults.proofs.Lists.{All, none, also}
-use Rattle.work_marks.specs.MarksModel.{lambdaEnd, blockEnd, slotAt, stampAt, flagAt, putStamp}
-use Rattle.work_marks.proofs.Writes.{Words, Kept, kept-refl, kept-trans, stamp-same, stamp-other, stamp-flag, fourth-lambda, fourth-block, fourth-slot, kept-fourth, words-fourth}
+use Rattle.work_marks.specs.MarksModel.{stampAt, flagAt, putStamp}
+use Rattle.work_marks.proofs.Writes.{Words, stamp-same, stamp-other, stamp-flag}
 use Rattle.walk_own_names.specs.OwnNamesModel.{noted, forgot, flagFor}
+use Rattle.proof_walk.proofs.Fourths.{Fourths, fourths-refl, fourths-trans, fourths-put}
 use Rattle.proof_walk.specs.Notes.{Note, note, noteOf, assignedBy, flagOf}
 
 -- ---- a change of stamps
--- nothing else changes
+-- no flag and no link changes, and nothing else
 pub record Restamped (w v : List ℕ) : Type 0 where
-  pub kept : Kept w v
-  pub words : Words w → Words v
-  pub lambda : (a : ℕ) → a < 4_096 → lambdaEnd v a ≡ lambdaEnd w a
-  pub block : (a : ℕ) → a < 4_096 → blockEnd v a ≡ blockEnd w a
-  pub slot : (i : ℕ) → i < 4_096 → slotAt v i ≡ slotAt w i
+  pub others : Fourths w v
   pub flag : Words w → (i : ℕ) → flagAt v i ≡ flagAt w i
 
 restamped-refl : (w : List ℕ) → Restamped w w
-restamped-refl w = record {
-  kept = kept-refl w;
-  words = λ h. h;
-  lambda = λ _ _. refl;
-  block = λ _ _. refl;
-  slot = λ _ _. refl;
-  flag = λ _ _. refl;
-}
+restamped-refl w = record { others = fourths-refl w; flag = λ _ _. refl }
 
 restamped-trans : {w v z : List ℕ} → Restamped w v → Restamped v z → Restamped w z
-restamped-trans p q = record {
-  kept = kept-trans (p .kept) (q .kept);
-  words = λ h. q .words (p .words h);
-  lambda = λ a l. q .lambda a l ∙ p .lambda a l;
-  block = λ a l. q .block a l ∙ p .block a l;
-  slot = λ i l. q .slot i l ∙ p .slot i l;
-  flag = λ h i. q .flag (p .words h) i ∙ p .flag h i;
-}
+restamped-trans p q = record { others = fourths-trans (p .others) (q .others); flag = λ h i. q .flag (p .others .words h) i ∙ p .flag h i }
 
 restamped-put : (w : List ℕ) (a v : ℕ) → Restamped w (putStamp w a v)
-restamped-put w a v = record {
-  kept = kept-fourth w a _;
-  words = words-fourth w a _;
-  lambda = fourth-lambda w a _;
-  block = fourth-block w a _;
-  slot = fourth-slot w a _;
-  flag = stamp-flag w a v;
-}
+restamped-put w a v = record { others = fourths-put w a _; flag = stamp-flag w a v }
 
 -- ---- one note
 -- the stamp of the name
@@ -211,7 +187,7 @@ module _ (num : Bytes → ℕ) (apart : (x y : Bytes) → num x < 4_096 → num 
     stamp-all : (ns : List Note) → All (Later b) ns → (w : List ℕ) → 16_384 ≤ length w → stampAt (doAll num (noted b) ns w) (num x) ≡ stampBy b x ns (stampAt w (num x))
     stamp-all [] none w room = refl
     stamp-all (n ∷ ns) (also m ms) w room =
-        stamp-all ns ms (noted b (num (n .name .bytes)) (n .from) w) (omega (arith, restamped-noted b (num (n .name .bytes)) (n .from) w .kept .long))
+        stamp-all ns ms (noted b (num (n .name .bytes)) (n .from) w) (omega (arith, restamped-noted b (num (n .name .bytes)) (n .from) w .others .kept .long))
         ∙ ap (stampBy b x ns) (go (same x (n .name .bytes)) refl)
       where
         go : (t : Bool) → same x (n .name .bytes) ≡ t → stampAt (noted b (num (n .name .bytes)) (n .from) w) (num x) ≡ cond t (restamp b (n .from) (stampAt w (num x))) (stampAt w (num x))
@@ -250,7 +226,7 @@ module _ (num : Bytes → ℕ) (apart : (x y : Bytes) → num x < 4_096 → num 
   pub forgot-all : (ns : List Note) (w : List ℕ) → 16_384 ≤ length w → stampAt (doAll num forgot ns w) (num x) ≡ cond (noteOf ns x) 0 (stampAt w (num x))
   forgot-all [] w room = refl
   forgot-all (n ∷ ns) w room =
-      forgot-all ns (forgot (num (n .name .bytes)) (n .from) w) (omega (arith, restamped-forgot (num (n .name .bytes)) (n .from) w .kept .long))
+      forgot-all ns (forgot (num (n .name .bytes)) (n .from) w) (omega (arith, restamped-forgot (num (n .name .bytes)) (n .from) w .others .kept .long))
       ∙ go (same x (n .name .bytes)) refl (noteOf ns x)
     where
       u : List ℕ

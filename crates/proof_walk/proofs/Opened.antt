@@ -165,7 +165,7 @@ module _ {text : Bytes} {rows : List Row} {num : Bytes → ℕ} (s : Scope) (i :
       let v : List ℕ = noted i a (suc i) u in
       ap (entered text s i ps) (rw o (ap₂ (λ c z. noted i c (i + 1) z) (t .found (p .bytes) (q .0)) (bind-one w (p .bytes) (q .0) t)
       ∙ ap (λ f. noted i a f u) (add-one i)))
-      ∙ entered-own o ps v (q .1) (table-kept (restamped-noted i a (suc i) u .kept) k)
+      ∙ entered-own o ps v (q .1) (table-kept (restamped-noted i a (suc i) u .others .kept) k)
       ∙ ap (doAll num (noted i) (map (note (suc i)) ps)) (sym (raise-noted-all num (s .end) i a (suc i) ps u))
 
 -- ---- the block of a method: its parameters are bound
@@ -228,7 +228,7 @@ module _ {text : Bytes} {rows : List Row} {num : Bytes → ℕ} {w : List ℕ} (
   table-bound = table-kept (is-bound .kept) t
 
   table-stamped : Table text rows num stamped
-  table-stamped = table-kept (is-stamped .kept) table-bound
+  table-stamped = table-kept (is-stamped .others .kept) table-bound
 
   later : All (Later i) (ms ++ ns)
   later = later-d l b i (omega arith)
@@ -241,7 +241,7 @@ module _ {text : Bytes} {rows : List Row} {num : Bytes → ℕ} {w : List ℕ} (
       flagged-all i (ms ++ ns) b (suc i) table-stamped (λ x k r. noted-all num (t .apart) x k i (ms ++ ns) later bound (table-bound .room) (old-bound x k) r) (d .1 .1 .1) (here-tail h)
 
   table-told : Table text rows num told
-  table-told = table-kept (is-told .does .kept) table-stamped
+  table-told = table-kept (is-told .does .others .kept) table-stamped
 
   is-done : Restamped told done
   is-done = restamped-all num forgot restamped-forgot ns told
@@ -252,7 +252,7 @@ module _ {text : Bytes} {rows : List Row} {num : Bytes → ℕ} {w : List ℕ} (
       let o : owns s ≡ true = ap₂ (λ a c. eqb a 1 && eqb c 0) home flat in
       let e : paramsOf text w i ≡ l .params = row-params t h (subst ParamWord (sym (d .0)) def) in
       let z : s .end ≡ suc i + lenSs b = omega arith in
-      let g : Table text rows num (doAll num (noted i) ms bound) = table-kept (restamped-all num (noted i) (restamped-noted i) ms bound .kept) table-bound in
+      let g : Table text rows num (doAll num (noted i) ms bound) = table-kept (restamped-all num (noted i) (restamped-noted i) ms bound .others .kept) table-bound in
       ap (λ c. cond c (flagged i (i + 1) (s .end) (entered text s i (paramsOf text w i) w)) (entered text s i (paramsOf text w i) w)) o
       ∙ ap (λ ps. flagged i (i + 1) (s .end) (entered text s i ps w)) e ∙ ap (flagged i (i + 1) (s .end)) (entered-own s i flat o (l .params) w (d .1 .1 .0) t)
       ∙ ap₂ (λ at stop. flagged i at stop (doAll num (noted i) ms bound)) (add-one i) z
@@ -262,10 +262,10 @@ module _ {text : Bytes} {rows : List Row} {num : Bytes → ℕ} {w : List ℕ} (
 
   pub opened-def : OpenedDef rows num (s .end) i (l .params) (notesD l b i) b w (opened text s i (s .end) w)
   opened-def = subst (OpenedDef rows num (s .end) i (l .params) (ms ++ ns) b w) (sym opened-steps) (record {
-    kept = kept-trans (is-bound .kept) (kept-trans (is-stamped .kept) (kept-trans (is-told .does .kept) (is-done .kept)));
-    words = λ c. is-done .words (words c);
-    lambda = λ a c. is-done .lambda a c ∙ is-told .does .lambda a c ∙ is-stamped .lambda a c ∙ is-bound .lambda a c;
-    slot = λ c j m. is-done .slot j m ∙ is-told .does .slot j m ∙ is-stamped .slot j m ∙ is-bound .slot c j;
+    kept = kept-trans (is-bound .kept) (kept-trans (is-stamped .others .kept) (kept-trans (is-told .does .others .kept) (is-done .others .kept)));
+    words = λ c. is-done .others .words (words c);
+    lambda = λ a c. is-done .others .lambda a c ∙ is-told .does .others .lambda a c ∙ is-stamped .others .lambda a c ∙ is-bound .lambda a c;
+    slot = λ c j m. is-done .others .slot j m ∙ is-told .does .others .slot j m ∙ is-stamped .others .slot j m ∙ is-bound .slot c j;
     raised = λ a c. subst (Raised (s .end) (blockEnd w a)) (sym (same a c)) (is-bound .raised a c);
     block = λ x c. same (num x) c ∙ is-bound .block x c;
     low = λ x c. low-again num (t .apart) x c i (l .params) ns later bound told (table-bound .room) (table-told .room) (old-bound x c) (is-told .does .stamp (num x));
@@ -275,7 +275,7 @@ module _ {text : Bytes} {rows : List Row} {num : Bytes → ℕ} {w : List ℕ} (
   })
     where
       words : Words w → Words told
-      words c = is-told .does .words (is-stamped .words (is-bound .words c))
+      words c = is-told .does .others .words (is-stamped .others .words (is-bound .words c))
 
       same : (a : ℕ) → a < 4_096 → blockEnd done a ≡ blockEnd bound a
-      same a c = is-done .block a c ∙ is-told .does .block a c ∙ is-stamped .block a c
+      same a c = is-done .others .block a c ∙ is-told .does .others .block a c ∙ is-stamped .others .block a c

@@ -22,4 +22,4 @@ partAnswer x = 102 ∷ x .offset ∷ length (x .bytes) ∷ []
 
 -- "major, minor, patch"
 abbrev pub version : List ℕ
-version = 1 ∷ 0 ∷ 1 ∷ []
+version = 1 ∷ 0 ∷ 2 ∷ []

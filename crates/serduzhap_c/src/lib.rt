@@ -35,7 +35,7 @@ pub const MAJOR: usize = 1;
 
 pub const MINOR: usize = 0;
 
-pub const PATCH: usize = 1;
+pub const PATCH: usize = 2;
 
 // Writes an answer of two numbers, 32 bits of each.
 fn put_two(answer: &mut [u32], number: usize, value: usize)
