@@ -57,7 +57,7 @@ pub const LONGEST_NAME: usize = 63;
 /// The bytes of a message, at most.
 pub const LONGEST_MESSAGE: usize = 183;
 /// The bytes of stack that any call takes at most, on x86-64.
-pub const STACK: usize = 26_624;
+pub const STACK: usize = 30_720;
 
 /// Checks a tree text: accepts it, refuses it, or answers with its first fault.
 ///
