@@ -9,7 +9,7 @@ use Rattle.spec_faults.specs.Faults.{lacksSelf}
 use Rattle.work_rows.specs.Layout.{rowsMost, kindAt, numberAt, afterRow}
 use Rattle.work_marks.specs.MarksModel.{putSlot, putLink}
 use Rattle.work_rows.specs.LoopsModel.{rowsTo}
-use Rattle.walk_scopes.specs.ScopesModel.{Scope, module′, atModule, scopeAt, below, topOf, stackOf, defined}
+use Rattle.walk_scopes.specs.ScopesModel.{Scope, module′, atModule, scopeAt, below, within, scopeOf, topOf, stackOf, defined}
 use Rattle.walk_scopes.specs.declared.ScopeStack.{ScopeStack}
 use Rattle.read_row.specs.RowModel.{paramsOf}
 use Rattle.walk_judge.specs.JudgeModel.{readOf}
@@ -28,9 +28,9 @@ targetAt value s i w =
     (cond (eqb (kindAt w i) 22) (rowsTo afterRow value (i + 1) (afterRow w i) w) (putSlot w i 14))))
 
 -- ---- expressions, by their kind: 17 var, 21 call, 28 lambda; `value` walks an expression, `body` that of a lambda
--- in a lambda up to the row end: the outermost one is kept
+-- in a lambda up to the row end
 abbrev pub inLambda : Scope → ℕ → Scope
-inLambda s end = record { home = s .home; row = s .row; end = s .end; outer = cond (eqb (s .outer) 0) end (s .outer); inner = end }
+inLambda s end = scopeOf (stackOf s) (within (record { outer = s .outer; inner = s .inner }) end)
 
 unfoldable pub exprAt : (Bool → Scope → ℕ → List ℕ → List ℕ) → (Scope → ℕ → List ℕ → List ℕ) → Bytes → Scope → Bool → ℕ → List ℕ → List ℕ
 exprAt value body text s called i w =

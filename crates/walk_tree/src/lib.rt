@@ -239,7 +239,8 @@ fn walk_block(
     walk_scopes::pop(work, last)
 }
 
-// The body of a lambda, a line of either sort. A list of one statement: so lists are what `walk_stmt` is called from, and no other.
+// The body of a lambda, a line of either sort. A statement, which no text has there, is walked as a list of one: so `walk_stmt` has one caller,
+// and is a part of it in the machine code.
 fn walk_line(text: &[u8], work: &mut [u32], left: usize, s: ScopeStack, l: Lambdas, i: usize)
     requires { ⌜ i < 16384 ⌝ }
     ensures { λ _. ⌜ now (work .exit) ≡ walkBody left (now (text .entry)) (scopeOf s l) i (now (work .entry)) ⌝ }
@@ -251,7 +252,7 @@ fn walk_line(text: &[u8], work: &mut [u32], left: usize, s: ScopeStack, l: Lambd
     }
 }
 
-// A list of statements, which may have expressions before them. Its test is its own, and not by `walk_line`: so it takes less stack.
+// A list of statements, which may have expressions before them.
 fn walk_stmts(
     text: &[u8],
     work: &mut [u32],
