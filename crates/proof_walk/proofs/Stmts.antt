@@ -33,7 +33,7 @@ use Rattle.proof_walk.proofs.PartRows.{here-tail, here-left, here-past,
 use Rattle.proof_walk.proofs.WordTests.{simple-test, block-test}
 use Rattle.proof_walk.proofs.Assigned.{Assigns, stmts-first, stmts-rest, assign-still, assign-target, block-still, block-body, choice-still, choice-body, choice-elifs, choice-else, for-still, for-body, none-still, cut, def-body, locals}
 use Rattle.proof_walk.proofs.Opened.{OpenedDef, opened-def, opened-method}
-use Rattle.proof_walk.proofs.Exprs.{Still, word-E, expr-walked}
+use Rattle.proof_walk.proofs.Exprs.{Still, Flat, word-E, expr-walked}
 use Rattle.proof_walk.proofs.Done.{Done, Comes, Spans, comes-then, done-then, done-link, done-skip, done-fault, done-bind, done-to, Looped, looped-one, looped-then, looped-to, looped-end}
 use Rattle.proof_walk.proofs.Targets.{target}
 use Rattle.proof_walk.proofs.Nested.{Entry, entry-def, entry-method, Block, blockOf, known-def, known-method, popped-back, enter, nested}
@@ -126,6 +126,24 @@ module _ (text : Bytes) (rows : List Row) (num : Bytes → ℕ) where
         let test = expr-looped e (suc r) (suc n) (r + suc below) st (omega arith) (f .inside) (here-left (rowsE e) part (here-tail here)) d h₁ still (λ i z u y. told i z (omega arith) y) in
         plain-done l below (rowsE e ++ part) r p here h top refl (looped-then (test .goes) (test .done) (rest (test .there) (test .done .after)))
 
+    -- ---- a block: x pops after its lines, which are walked in its own scope; p is what was done at its row before the row was linked
+    block-comes : (home r stop : ℕ) {x : Walk} {us ps zs vs : List Part} {seen fs gs : List Fault} {w w₁ w₂ : List ℕ} {own′ : OwnNames} {v′ : Env} → r < length rows → R us seen w r
+        → (p : D vs seen fs w w₁ r (suc r)) → Entry num r stop ps (putLink w₁ r (s .row)) w₂ → Flat (topOf (blockOf home r stop)) v′ → stop ≤ s .end
+        → x ≡ popped (kids text k (blockOf home r stop) stop (suc r) w₂)
+        → Looped text rows num own′ (topOf (blockOf home r stop)) v′ (kids text k (blockOf home r stop) stop) zs (seenAfter seen fs) gs w₂ (suc r) stop
+        → C x vs seen (fs ++ gs) w r stop
+    block-comes home r stop {vs = vs} {seen} {fs} {gs} {w} {w₁} in-rows h p q flat m e g =
+        let few : r < 4_096 = omega (arith, h .table .few) in
+        let whole : D vs seen (fs ++ gs) w (g .there) r stop = nested b h (done-link (s .row) in-rows p) q refl flat (g .done) m in
+        record {
+          there = g .there;
+          goes =
+              e ∙ ap popped (g .goes ∙ kids-end text k (blockOf home r stop) stop stop (g .there) (omega arith))
+              ∙ popped-back home stop b (whole .after .table) few
+              (g .done .early r (omega arith) ∙ q .early r (omega arith) ∙ flag-same w₁ r (s .row) (p .after .table .room) few (b .few));
+          done = whole;
+        }
+
     -- ---- a def: its name is bound, and its body is a block of its own
     abbrev def-scope : Line → Stmts → ℕ → ScopeStack
     def-scope l bd r = blockOf aDef r (r + lenS (def l bd))
@@ -145,20 +163,19 @@ module _ (text : Bytes) (rows : List Row) (num : Bytes → ℕ) where
         → ToldSs rows (def-own l bd r z) bd (suc r)
         → Looped text rows num (def-own l bd r z) (topOf (def-scope l bd r)) (defEnv l bd) (kids text k (def-scope l bd r) (r + lenS (def l bd))) vs seen gs z (suc r) (r + lenS (def l bd)))
         → C (walkStmt (suc k) text r (walk s w)) (l .name ∷ us) seen gs w r (r + lenS (def l bd))
-    def-done l bd r {us} {vs} {seen} {gs} {w} here d m h rest = record {
-      there = g .there;
-      goes =
-          at-def text k s r w (row-few at here) stop (row-after at here) (row-kind at here ∙ d .0) (num (l .name .bytes)) (row-number at here (d .1 .0)) top (known-def (p .after .table) here (d .0))
-          ∙ ap popped (g .goes ∙ kids-end text k top stop stop (g .there) (omega arith))
-          ∙ popped-back aDef stop b (whole .after .table) (row-few at here) (g .done .early r (omega arith) ∙ q .early r (omega arith) ∙ flag-same w₁ r (s .row) (p .after .table .room) (row-few at here) (b .few));
-      done = whole;
-    }
+    def-done l bd r {us} {vs} {seen} {gs} {w} here d m h rest =
+        block-comes aDef r stop inside-rows h p q (record { outer = refl; inner = refl; params = refl }) m
+        (at-def text k s r w (row-few at here) stop (row-after at here) (row-kind at here ∙ d .0) (num (l .name .bytes)) (row-number at here (d .1 .0)) top (known-def (p .after .table) here (d .0)))
+        (rest w₃ inside (o .told (p′ .after .words)))
       where
         stop : ℕ
         stop = r + lenS (def l bd)
 
         top : ScopeStack
         top = def-scope l bd r
+
+        inside-rows : r < length rows
+        inside-rows = omega (arith, b .room)
 
         at : Table text rows num w
         at = h .table
@@ -177,7 +194,7 @@ module _ (text : Bytes) (rows : List Row) (num : Bytes → ℕ) where
         p = done-bind h (l .name) refl (omega (arith, b .room, at .few)) (row-small at here (d .1 .0)) (omega arith) (omega (arith, b .room))
 
         p′ : D (l .name ∷ us) seen [] w w₂ r (suc r)
-        p′ = done-link (s .row) (omega (arith, b .room)) p
+        p′ = done-link (s .row) inside-rows p
 
         -- no stamp comes after this row yet
         low : (x : Bytes) → num x < 4_096 → stampAt w₂ (num x) ≤ r
@@ -198,12 +215,6 @@ module _ (text : Bytes) (rows : List Row) (num : Bytes → ℕ) where
         inside : At text rows num (def-own l bd r w₃) (topOf top) [] (defEnv l bd) (l .params ++ (l .name ∷ us)) seen w₃ (suc r)
         inside = enter b (def-own l bd r w₃) (defEnv l bd) aDef p′ q m refl refl (λ _ i. refl) (λ _ x. sym (locals x l bd r)) (λ no. absurd (no refl))
 
-        g : Looped text rows num (def-own l bd r w₃) (topOf top) (defEnv l bd) (kids text k top stop) vs seen gs w₃ (suc r) stop
-        g = rest w₃ inside (o .told (p′ .after .words))
-
-        whole : D (l .name ∷ us) seen gs w (g .there) r stop
-        whole = nested b h p′ q refl (record { outer = refl; inner = refl; params = refl }) (g .done) m
-
     -- ---- a method of a class in the module: a block too, of which nothing is noted
     abbrev method-scope : Stmts → ℕ → ScopeStack
     method-scope bd r = blockOf aMethod r (r + suc (lenSs bd))
@@ -223,21 +234,20 @@ module _ (text : Bytes) (rows : List Row) (num : Bytes → ℕ) where
         → Looped text rows num noOwnNames (topOf (method-scope bd r)) methodEnv (kids text k (method-scope bd r) (r + suc (lenSs bd)))
         vs (seenAfter seen (selfFault n l c)) gs z (suc r) (r + suc (lenSs bd)))
         → C (walkStmt (suc k) text r (walk s w)) us seen (selfFault n l c ++ gs) w r (r + suc (lenSs bd))
-    method-done l c bd part r n {us} {vs} {seen} {gs} {w} m row here word some home h rest = record {
-      there = g .there;
-      goes =
-          at-method text k s r w (row-few at here) stop (row-after at here) (row-kind at here ∙ word) (l .params) (row-params at here (subst ParamWord (sym word) method)) top
-          (known-method (p .after .table) here word)
-          ∙ ap popped (g .goes ∙ kids-end text k top stop stop (g .there) (omega arith))
-          ∙ popped-back aMethod stop b (whole .after .table) (row-few at here) (g .done .early r (omega arith) ∙ q .early r (omega arith) ∙ flag-same w₁ r (s .row) (p .after .table .room) (row-few at here) (b .few));
-      done = whole;
-    }
+    method-done l c bd part r n {us} {vs} {seen} {gs} {w} m row here word some home h rest =
+        block-comes aMethod r stop inside-rows h p q (record { outer = refl; inner = refl; params = refl }) m
+        (at-method text k s r w (row-few at here) stop (row-after at here) (row-kind at here ∙ word) (l .params) (row-params at here (subst ParamWord (sym word) method)) top
+        (known-method (p .after .table) here word))
+        (rest w₃ inside)
       where
         stop : ℕ
         stop = r + suc (lenSs bd)
 
         top : ScopeStack
         top = method-scope bd r
+
+        inside-rows : r < length rows
+        inside-rows = omega (arith, b .room)
 
         at : Table text rows num w
         at = h .table
@@ -259,7 +269,7 @@ module _ (text : Bytes) (rows : List Row) (num : Bytes → ℕ) where
             go false = head h (omega arith)
 
         p′ : D us seen (selfFault n l c) w w₂ r (suc r)
-        p′ = done-link (s .row) (omega (arith, b .room)) p
+        p′ = done-link (s .row) inside-rows p
 
         q : Entry num r stop (l .params) w₂ w₃
         q = entry-method (p′ .after .words) (p′ .after .low)
@@ -270,12 +280,6 @@ module _ (text : Bytes) (rows : List Row) (num : Bytes → ℕ) where
           where
             none : {A : Type 0} → inMethod ≡ inDef → A
             none i = absurd (omega (arith, ap homeNumber i))
-
-        g : Looped text rows num noOwnNames (topOf top) methodEnv (kids text k top stop) vs (seenAfter seen (selfFault n l c)) gs w₃ (suc r) stop
-        g = rest w₃ inside
-
-        whole : D us seen (selfFault n l c ++ gs) w (g .there) r stop
-        whole = nested b h p′ q refl (record { outer = refl; inner = refl; params = refl }) (g .done) m
 
     -- ---- attributes are stepped over
     attrs-over : (ats : Attrs) (r stop : ℕ) {w : List ℕ} → Table text rows num w → Here rows r (rowsAs ats) → WordedAs ats → r + lenAs ats ≤ stop
