@@ -7,9 +7,9 @@ use mathlib.Core.List.{[], ◌∷◌}
 use mathlib.Core.Option.{Option}
 use lib.ListN.{length}
 use Rattle.spec_text.specs.Bytes.{Bytes}
-use Rattle.spec_text.specs.Tree.{Expr, Exprs, Attrs, Stmt, Stmts, Methods, len_e, len_es, len_as, len_s, len_ss, len_ms}
+use Rattle.spec_text.specs.Tree.{snil, Expr, Exprs, Attrs, Stmt, Stmts, Methods, len_e, len_es, len_as, len_s, len_ss, len_ms}
 use Rattle.spec_text.specs.Lines.{StmtForm, ExprForm, Form, count_at, as_stmt, as_expr, as_sort}
-use Rattle.spec_text.specs.Reading.{Rest, Read, Due, exprs, attrs, stmts, methods, expr, stmt, elif, methods_at, attrs_at, globals}
+use Rattle.spec_text.specs.Reading.{stmt_children, expr_children, Rest, Read, Due, exprs, attrs, stmts, methods, expr, stmt, elif, methods_at, attrs_at, globals}
 use Rattle.spec_text.proofs.Lists.{All, all_nil, all_cons}
 use Rattle.spec_text.proofs.LineParts.{IsNameOf, LineIn, global_name}
 use Rattle.spec_text.proofs.Shape.{depth_e, depth_es, depth_as, depth_s, depth_ss, depth_ms, EachE, EachEs, EachAs, EachS, EachSs, EachMs}
@@ -96,15 +96,15 @@ module _ (text : Bytes) where
   expr_fine : (n : ℕ) → Reads (OfE n) (expr n)
   expr_fine zero r g = too_deep_lem text as_expr r g
   expr_fine (suc n) r g =
-      line_then text as_expr n r g _ (λ i p r h. elim i [
-        | ExprForm.fixed k ↦ fine_then (exprs_fine (expr_fine n) k r h.good) (λ es r a. fine_got (under h a))
-        | ExprForm.counted k ↦ fine_then (exprs_fine (expr_fine n) (k * count_at 0 p) r h.good) (λ es r a. fine_got (under h a))
-        | ExprForm.access k ↦ fine_then (exprs_fine (expr_fine n) k r h.good) (λ es r a. fine_got (under h a))
+      line_then text as_expr n r g _ (λ i p s h. elim i as (λ k. Fine (OfE (suc n) r) (expr_children (expr n) k p s)) [
+        | ExprForm.fixed k ↦ fine_then (exprs_fine (expr_fine n) k s h.good) (λ es r a. fine_got (under h a))
+        | ExprForm.counted k ↦ fine_then (exprs_fine (expr_fine n) (k * count_at 0 p) s h.good) (λ es r a. fine_got (under h a))
+        | ExprForm.access k ↦ fine_then (exprs_fine (expr_fine n) k s h.good) (λ es r a. fine_got (under h a))
         | ExprForm.var ↦ fine_got (record { good = h.good; number = omega arith; deep = omega arith; holds = line_in_lem h })
-        | ExprForm.tuple ↦ fine_then (exprs_fine (expr_fine n) (count_at 0 p) r h.good) (λ es r a. fine_got (under h a))
+        | ExprForm.tuple ↦ fine_then (exprs_fine (expr_fine n) (count_at 0 p) s h.good) (λ es r a. fine_got (under h a))
         | ExprForm.call ↦
-            fine_then (expr_fine n r h.good) (λ f r a. fine_then (exprs_fine (expr_fine n) (count_at 0 p) r a.good) (λ es r b. fine_got (under h (both a b))))
-        | ExprForm.lambda ↦ fine_then (expr_fine n r h.good) (λ e r a. fine_got (under h a))
+            fine_then (expr_fine n s h.good) (λ f r a. fine_then (exprs_fine (expr_fine n) (count_at 0 p) r a.good) (λ es r b. fine_got (under h (both a b))))
+        | ExprForm.lambda ↦ fine_then (expr_fine n s h.good) (λ e r a. fine_got (under h a))
       ])
 
   -- ---- statements
@@ -112,21 +112,21 @@ module _ (text : Bytes) where
     pub stmt_fine : (n : ℕ) → Reads (OfS n) (stmt n)
     stmt_fine zero r g = too_deep_lem text as_stmt r g
     stmt_fine (suc n) r g =
-        line_then text as_stmt n r g _ (λ i p r h. elim i [
-          | StmtForm.plain k ↦ fine_then (exprs_fine (expr_fine n) k r h.good) (λ es r a. fine_got (under h a))
-          | StmtForm.assign ↦ fine_then (expr_fine n r h.good) (λ e r a. fine_then (expr_fine n r a.good) (λ t r c. fine_got (under h (both a c))))
+        line_then text as_stmt n r g _ (λ i p s h. elim i as (λ k. Fine (OfS (suc n) r) (stmt_children (expr n) (stmt n) (elif n) (methods_at n) (attrs_at n) k p s)) [
+          | StmtForm.plain k ↦ fine_then (exprs_fine (expr_fine n) k s h.good) (λ es r a. fine_got (under h a))
+          | StmtForm.assign ↦ fine_then (expr_fine n s h.good) (λ e r a. fine_then (expr_fine n r a.good) (λ t r c. fine_got (under h (both a c))))
           | StmtForm.while ↦
-              fine_then (expr_fine n r h.good) (λ e r a. fine_then (stmts_fine (λ r g. stmt_fine n r g) (count_at 0 p) r a.good) (λ ss r c. fine_got (under h (both a c))))
+              fine_then (expr_fine n s h.good) (λ e r a. fine_then (stmts_fine (λ r g. stmt_fine n r g) (count_at 0 p) r a.good) (λ ss r c. fine_got (under h (both a c))))
           | StmtForm.if ↦
-              fine_then (expr_fine n r h.good) (λ c r a.
+              fine_then (expr_fine n s h.good) (λ c r a.
               fine_then (stmts_fine (λ r g. stmt_fine n r g) (count_at 0 p) r a.good) (λ t r d.
               fine_then (stmts_fine (λ r g. elif_fine n r g) (count_at 1 p) r d.good) (λ l r f.
               fine_then (stmts_fine (λ r g. stmt_fine n r g) (count_at 2 p) r f.good) (λ e r k. fine_got (under h (both a (both d (both f k))))))))
           | StmtForm.for ↦
-              fine_then (expr_fine n r h.good) (λ e r a. fine_then (stmts_fine (λ r g. stmt_fine n r g) (count_at 0 p) r a.good) (λ ss r c. fine_got (under h (both a c))))
-          | StmtForm.def ↦ fine_then (stmts_fine (λ r g. stmt_fine n r g) (count_at 0 p) r h.good) (λ ss r a. fine_got (under h a))
+              fine_then (expr_fine n s h.good) (λ e r a. fine_then (stmts_fine (λ r g. stmt_fine n r g) (count_at 0 p) r a.good) (λ ss r c. fine_got (under h (both a c))))
+          | StmtForm.def ↦ fine_then (stmts_fine (λ r g. stmt_fine n r g) (count_at 0 p) s h.good) (λ ss r a. fine_got (under h a))
           | StmtForm.class ↦
-              fine_then (methods_at_fine n (count_at 0 p) r h.good) (λ ms r a. fine_then (attrs_at_fine n (count_at 1 p) r a.good) (λ ats r c. fine_got (under h (both a c))))
+              fine_then (methods_at_fine n (count_at 0 p) s h.good) (λ ms r a. fine_then (attrs_at_fine n (count_at 1 p) r a.good) (λ ats r c. fine_got (under h (both a c))))
         ])
 
     elif_fine : (n : ℕ) → Reads (OfS n) (elif n)
@@ -136,7 +136,7 @@ module _ (text : Bytes) where
         fine_then (expr_fine n r h.good) (λ c r a. fine_then (stmts_fine (λ r g. stmt_fine n r g) (count_at 0 p) r a.good) (λ t r d. fine_got (under h (both a d)))))
 
     methods_at_fine : (n k : ℕ) → Reads (OfMs n) (methods_at n k)
-    methods_at_fine zero k r g = methods_fine {due = method} {m = 0} (λ r g. too_deep_lem text method r g) (λ k r g. fine_got (nothing g)) k r g
+    methods_at_fine zero k r g = methods_fine {due = method} {m = 0} (λ r g. too_deep_lem text method r g) (λ k r g. fine_got {a = snil} (nothing g)) k r g
     methods_at_fine (suc n) k r g = methods_fine (line_fine text method n) (stmts_fine (λ r g. stmt_fine n r g)) k r g
 
     attrs_at_fine : (n k : ℕ) → Reads (OfAs n) (attrs_at n k)

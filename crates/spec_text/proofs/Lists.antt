@@ -57,7 +57,7 @@ module _ {A : Type 0} {P : A → Type 0} where
   pub all_drop : {l : List A} → All P l → (i : ℕ) → All P (drop i l)
   all_drop a zero = a
   all_drop all_nil (suc i) = all_nil
-  all_drop (all_cons p a) (suc i) = all_drop a i
+  all_drop (all_cons {l = t} p a) (suc i) = all_drop {l = t} a i
 
   -- a test that is true of all of them
   pub all_and : {l : List A} (p : A → Bool) → All P l → all p l ≡ true → All (λ (a : A). P a × (p a ≡ true)) l
