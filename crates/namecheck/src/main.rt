@@ -1,4 +1,5 @@
 // Checks the tree text on standard input and prints its faults: reads, and writes what the library printed.
+#![tactic(auto)]
 use libc::STDOUT_FILENO;
 use print_answer::{REPORT, WORK};
 

@@ -1,4 +1,5 @@
 // One line of the tree text: its word, and then the fields that the word's row of the table asks for.
+#![tactic(auto)]
 ghost use Rattle.std.specs.Prelude.{◌≡◌};
 ghost use Rattle.read_line.specs.LineModel.{line_at, no_line};
 ghost use Rattle.read_line.specs.StepsModel.{span_from, count_from, own_from, params_from};

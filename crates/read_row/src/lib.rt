@@ -1,4 +1,5 @@
 // Reads the line of a row again: its span and its name, and its parameters one after the other.
+#![tactic(auto)]
 ghost use Rattle.std.specs.Prelude.{◌≡◌, true, ◌<◌, ◌≤◌, length};
 ghost use Rattle.read_row.specs.RowModel.{parts_from, params_of, line_start, line_of_row};
 

@@ -1,5 +1,6 @@
 // Reads a tree text into rows, or refuses it. An agenda in the work buffer says which lines are due, so nothing recurses: each turn
 // takes one line, writes its row, and puts the lines due below it on the agenda.
+#![tactic(auto)]
 ghost use Rattle.std.specs.Prelude.{◌≡◌, ◌+◌, ◌-◌, ◌<◌, ◌≤◌, length};
 ghost use Rattle.spec_text.specs.Reading.{reading, ended};
 ghost use Rattle.read_agenda.specs.AgendaModel.{after};

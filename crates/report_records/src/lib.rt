@@ -1,4 +1,5 @@
 // The record of a listed fault: seven numbers.
+#![tactic(auto)]
 ghost use Rattle.std.specs.Prelude.{◌≡◌, ◌<◌, ◌≤◌, ◌+◌, length, take, drop, ◌++◌, cond};
 ghost use Rattle.report_records.specs.RecordsModel.{record_of, numbers32};
 

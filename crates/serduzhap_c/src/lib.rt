@@ -1,5 +1,6 @@
 // The calls for C and Rust, on every target: a slice is a pointer and a count, an answer a row of 32-bit numbers that the caller lends:
 // a number, then what goes with it, then 0. Nothing is returned. include/serduzhap.h is the header.
+#![tactic(auto)]
 ghost use Rattle.std.specs.Prelude.{◌≡◌, [], ◌∷◌, length};
 ghost use Rattle.spec_answers.specs.Answers.{check, over, report, message, name};
 ghost use Rattle.report_records.specs.RecordsModel.{cut32};

@@ -9,6 +9,7 @@
 //   m i k      message of fault i, to k bytes of output, all 255
 //   n i _      name of fault i
 //   v _ _      version
+#![tactic(auto)]
 ghost use Rattle.std.specs.Prelude.{◌<◌};
 
 use serduzhap_c::{

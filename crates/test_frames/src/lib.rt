@@ -1,4 +1,5 @@
 // What the replay programs share: frames of numbers and bytes from standard input, buffers filled and copied, sums, and lines written.
+#![tactic(auto)]
 ghost use Rattle.std.specs.Prelude.{◌≤◌, ◌<◌, length};
 
 use libc::STDOUT_FILENO;

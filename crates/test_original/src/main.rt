@@ -3,6 +3,7 @@
 // Standard input is texts, each after its length in four bytes, the low byte first. For each a line is written: `accepted`; or kind, start,
 // end and message of the first fault; or `refused`, number and line. oracle/src/vectors.rs wrote the texts and, from the original
 // compiled unchanged, the lines that are expected, refusals from a plain parser: `bash oracle/run.sh PATH vectors crates/test_original 1`.
+#![tactic(auto)]
 ghost use Rattle.std.specs.Prelude.{◌<◌};
 
 use report_records::Record;

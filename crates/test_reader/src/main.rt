@@ -6,6 +6,7 @@
 //   j a b      the first a bytes of the text, and its bytes from b on
 //   b i v      the text with the byte v at i
 // The work buffer is filled with 4,294,967,295 before each.
+#![tactic(auto)]
 ghost use Rattle.std.specs.Prelude.{◌+◌, ◌<◌};
 
 use read_tree::Read;

@@ -1,4 +1,5 @@
 // What the walk begins with: all marks, slots and stamps are forgotten, and the given names are bound in the module.
+#![tactic(auto)]
 ghost use Rattle.std.specs.Prelude.{◌≡◌, ◌<◌, ◌≤◌, length};
 ghost use Rattle.walk_builtins.specs.Table.{names, Rule};
 ghost use Rattle.walk_scopes.specs.ScopesModel.{top_of};

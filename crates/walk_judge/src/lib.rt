@@ -1,4 +1,5 @@
 // Judges a read: the kind of its fault goes to its row's slot.
+#![tactic(auto)]
 ghost use Rattle.std.specs.Prelude.{◌≡◌, ◌<◌};
 ghost use Rattle.spec_faults.specs.Faults.{lacks_self};
 ghost use Rattle.read_row.specs.RowModel.{params_of};

@@ -1,6 +1,7 @@
 // A def's own names, and where they are assigned: where a def is opened, each `var` in its block gets a flag that says whether its name is an
 // own name of the def, and whether it is assigned at that row. Own names are gathered first, each with a stamp, the first row from which
 // it is assigned; then the flags are set, and the stamps are forgotten. A stamp that does not come after the def's row is an old one.
+#![tactic(auto)]
 ghost use Rattle.std.specs.Prelude.{◌≡◌, ◌<◌, ◌≤◌};
 ghost use Rattle.work_rows.specs.Layout.{number_at};
 ghost use Rattle.work_marks.specs.MarksModel.{stamp_at};

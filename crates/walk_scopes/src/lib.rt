@@ -4,6 +4,7 @@
 // scope is follows from its row.
 // The four operations take the struct apart, and call functions on slices, numbers and structs by value. The functions of the same names after
 // them have plain parameters and lend the stack for one operation: these are for the walk.
+#![tactic(auto)]
 ghost use Rattle.std.specs.Prelude.{◌≡◌, ◌<◌};
 ghost use Rattle.work_marks.specs.MarksModel.{put_link, raised_block};
 ghost use Rattle.walk_scopes.specs.ScopesModel.{at_module, scope_at, below, is_defined, no_lambdas, within, scope_of, owns};

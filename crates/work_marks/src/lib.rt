@@ -1,4 +1,5 @@
 // Marks of names and slots of rows, in the bits of the work buffer that the rows and the names leave free.
+#![tactic(auto)]
 ghost use Rattle.std.specs.Prelude.{◌≡◌, ◌+◌, ◌<◌, ◌≤◌, length};
 ghost use Rattle.work_marks.specs.MarksModel.{lambda_end, block_end, slot_at, stamp_at, flag_at, link_at, put_lambda_end, put_block_end, put_slot, put_stamp, put_flag, put_link, unmarked, unstamped, raised_lambda, raised_block};
 
