@@ -10,7 +10,7 @@ ghost use Rattle.read_fields.specs.FieldsModel.{next_at, field_at, refused, star
 const LONGEST_NAME: usize = 63;
 
 // Where the next field starts, whether there is one, and whether all went well so far.
-#[derive(Drop)]
+#[derive(Clone, Copy)]
 pub struct Cursor {
     pub at: usize,
     pub more: bool,
@@ -18,14 +18,14 @@ pub struct Cursor {
 }
 
 // A number, and the cursor past it.
-#[derive(Drop)]
+#[derive(Clone, Copy)]
 pub struct Number {
     pub value: u32,
     pub next: Cursor,
 }
 
 // A name: the offset of its first byte, its length, and its hash.
-#[derive(Drop)]
+#[derive(Clone, Copy)]
 pub struct Name {
     pub at: usize,
     pub len: usize,
