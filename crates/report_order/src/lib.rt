@@ -1,5 +1,6 @@
 // Lists the faults in the report's order, from the slots: at each row those that have it as their place.
 #![tactic(auto)]
+
 ghost use Rattle.std.specs.Prelude.{◌≡◌, ◌||◌, [], ◌∷◌, ◌+◌, ◌-◌, ◌<◌, ◌≤◌, eqb, length};
 ghost use Rattle.spec_faults.specs.Faults.{capture};
 ghost use Rattle.report_order.specs.OrderModel.{entry, slot_in, captured, captures, called, itself, around, placed_at, entries, stored, entry_at, any_fault};
@@ -24,7 +25,7 @@ pub struct Entry {
 }
 
 // What is around a row: the row after the outermost lambda, the outermost class, and the row after that.
-#[derive(Drop)]
+#[derive(Clone, Copy)]
 pub struct Around {
     pub lambda: usize,
     pub class: usize,
