@@ -8,7 +8,7 @@ ghost use Rattle.bench_reader.specs.Numbers.{numbers_of};
 use read_tree::Read;
 
 #[repr(C)]
-#[derive(Drop)]
+#[derive(Clone, Copy)]
 pub struct ReadNumbers {
     pub refusal: usize,
     pub line: usize,

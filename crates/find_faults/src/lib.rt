@@ -10,7 +10,7 @@ use read_tree::Read;
 use report_records::Record;
 
 // So many faults, listed in the work buffer; or a refusal, by number and line.
-#[derive(Drop)]
+#[derive(Clone, Copy)]
 pub enum Answer {
     Faults { count: usize },
     Refused { number: usize, line: usize },

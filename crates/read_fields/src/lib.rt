@@ -1,6 +1,7 @@
 // A cursor over the fields of a line: it goes by value, and each step hands back the next one. A step that finds something else hands
 // back a cursor that is not ok, which takes nothing any more, so that a line's reader needs no branch.
 #![tactic(auto)]
+
 ghost use Rattle.std.specs.Prelude.{◌≡◌, ◌+◌, ◌<◌, ◌≤◌, length};
 ghost use Rattle.spec_text.specs.Bytes.{same};
 ghost use Rattle.read_fields.specs.FieldsModel.{next_at, field_at, refused, start_at, field_from, number_from, hash_of, name_from, mix, end_from, ends_at, past_end, no_number, no_name};
@@ -9,7 +10,7 @@ ghost use Rattle.read_fields.specs.FieldsModel.{next_at, field_at, refused, star
 const LONGEST_NAME: usize = 63;
 
 // Where the next field starts, whether there is one, and whether all went well so far.
-#[derive(Drop)]
+#[derive(Clone, Copy)]
 pub struct Cursor {
     pub at: usize,
     pub more: bool,
@@ -17,14 +18,14 @@ pub struct Cursor {
 }
 
 // A number, and the cursor past it.
-#[derive(Drop)]
+#[derive(Clone, Copy)]
 pub struct Number {
     pub value: u32,
     pub next: Cursor,
 }
 
 // A name: the offset of its first byte, its length, and its hash.
-#[derive(Drop)]
+#[derive(Clone, Copy)]
 pub struct Name {
     pub at: usize,
     pub len: usize,

@@ -13,7 +13,7 @@ const LARGEST_COUNT: u32 = 4096;
 
 // A line as numbers: the word's place in the table, the class of places where it is due, its span, its own name with its hash,
 // its counts, how many parameters it has, and where the next line starts. What it has not is 0.
-#[derive(Drop)]
+#[derive(Clone, Copy)]
 pub struct Line {
     pub ok: bool,
     pub kind: usize,
@@ -31,7 +31,7 @@ pub struct Line {
 }
 
 // How many parameters there are.
-#[derive(Drop)]
+#[derive(Clone, Copy)]
 pub struct Params {
     pub count: usize,
     pub next: Cursor,

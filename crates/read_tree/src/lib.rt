@@ -24,14 +24,14 @@ const SHORTEST_WORK: usize = 16384;
 const MOST_PARAMS: usize = 16;
 
 // What a text is: a tree, with so many `global` lines and so many lines after the first; or refused, by number and line.
-#[derive(Drop)]
+#[derive(Clone, Copy)]
 pub enum Read {
     Tree { globals: usize, lines: usize },
     Refused { number: usize, line: usize },
 }
 
 // How far the reading is: the offset of the next line, the rows written, the entries of the agenda, and a refusal or 0.
-#[derive(Drop)]
+#[derive(Clone, Copy)]
 pub struct Progress {
     pub at: usize,
     pub rows: usize,
@@ -40,7 +40,7 @@ pub struct Progress {
 }
 
 // A line that is due, or its refusal.
-#[derive(Drop)]
+#[derive(Clone, Copy)]
 pub struct Due {
     pub refusal: usize,
     pub line: Line,

@@ -8,14 +8,14 @@ use read_fields::Cursor;
 use spec_text::{line_kind, sort};
 
 // A word's place in the table.
-#[derive(Drop)]
+#[derive(Clone, Copy)]
 pub struct Kind {
     pub kind: usize,
     pub next: Cursor,
 }
 
 // Which fields a word's line has, and the class of places where it is due.
-#[derive(Drop)]
+#[derive(Clone, Copy)]
 pub struct Shape {
     pub spanned: bool,
     pub named: bool,
@@ -25,7 +25,7 @@ pub struct Shape {
 }
 
 // How many lines of each sort are due below a line, in their order.
-#[derive(Drop)]
+#[derive(Clone, Copy)]
 pub struct Children {
     pub exprs: usize,
     pub stmts: usize,

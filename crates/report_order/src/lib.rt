@@ -16,7 +16,7 @@ const ENTRY_ROWS: usize = 8192;
 
 const ENTRY_KINDS: usize = 67108864;
 
-#[derive(Drop)]
+#[derive(Clone, Copy)]
 pub struct Entry {
     pub kind: usize,
     pub of: usize,
@@ -24,7 +24,7 @@ pub struct Entry {
 }
 
 // What is around a row: the row after the outermost lambda, the outermost class, and the row after that.
-#[derive(Drop)]
+#[derive(Clone, Copy)]
 pub struct Around {
     pub lambda: usize,
     pub class: usize,

@@ -9,7 +9,7 @@ use spec_faults::fault_kind;
 // How many numbers a record has.
 pub const RECORD: usize = 7;
 
-#[derive(Drop)]
+#[derive(Clone, Copy)]
 pub struct Record {
     pub kind: usize,
     pub start: u32,

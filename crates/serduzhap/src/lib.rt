@@ -10,7 +10,7 @@ use report_records::{RECORD, Record};
 use spec_text::refusal;
 
 // Accepted; the record of the first fault; or a refusal, by number and line.
-#[derive(Drop)]
+#[derive(Clone, Copy)]
 pub enum CheckResult {
     Accepted,
     Faulty { record: Record },
@@ -18,14 +18,14 @@ pub enum CheckResult {
 }
 
 // So many records written; or a refusal, by number and line, or for 16 the count.
-#[derive(Drop)]
+#[derive(Clone, Copy)]
 pub enum ReportResult {
     Written { count: usize },
     Refused { number: usize, line: usize },
 }
 
 // So many bytes written; a refusal, by number and line; 17, no such fault; 18, the message is longer than the output.
-#[derive(Drop)]
+#[derive(Clone, Copy)]
 pub enum MessageResult {
     Written { len: usize },
     Refused { number: usize, line: usize },
@@ -34,7 +34,7 @@ pub enum MessageResult {
 }
 
 // A part of the text.
-#[derive(Drop)]
+#[derive(Clone, Copy)]
 pub struct NamePart {
     pub offset: usize,
     pub len: usize,

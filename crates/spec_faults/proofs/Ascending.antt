@@ -53,10 +53,12 @@ ascend_above {key} {low} h (next {a} i r) = also (le_trans h i) (ascend_above (l
 
 -- by its key, an element of such a list is from lo on, and it is the only one
 pub ascend_in : {A : Type 0} {key : A → ℕ} {lo hi : ℕ} {a : A} {l : List A} → Ascend key lo hi l → In a l → lo ≤ key a
+ascend_in (end _) i = elim i [ ]
 ascend_in (next h r) here = h
 ascend_in {key} {lo} {a} (next {a = b} h r) (there i) = let j : suc (key b) ≤ key a = ascend_in r i in omega arith
 
 pub ascend_only : {A : Type 0} {key : A → ℕ} {lo hi : ℕ} {a b : A} {l : List A} → Ascend key lo hi l → In a l → In b l → key a ≡ key b → a ≡ b
+ascend_only (end _) i j e = elim i [ ]
 ascend_only (next h r) here here e = refl
 ascend_only (next h r) here (there j) e = absurd (omega (arith, ascend_in r j))
 ascend_only (next h r) (there i) here e = absurd (omega (arith, ascend_in r i))

@@ -11,7 +11,7 @@ use Rattle.spec_faults.specs.Position.{Placed, Use, value, callee}
 use Rattle.spec_faults.specs.Faults.{Fault, fault_at, unless, capture}
 use Rattle.spec_faults.specs.Rust.{error, Checked, and_then, collect_free_vars, collect_free_vars_all, check_captured, Order, Rearranges, error_of, Answers, captured as one-captured}
 use Rattle.spec_faults.proofs.ListingWalk.{State, Env, with_params, Mode, plain, captures, inside, test, once, walk_e, walk_es}
-use Rattle.spec_faults.proofs.Lists.{same_eq, mem_append, mem_here, mem_there, All, none as All-none, also, all_in, any_in}
+use Rattle.spec_faults.proofs.Lists.{same_eq, mem_append, mem_here, mem_there, All, none as all_none, also, all_in, any_in}
 use Rattle.spec_faults.proofs.Finds.{first_error, Finds, stop, stops_append}
 use Rattle.spec_faults.proofs.FreeNames.{Fine, bound, free, Looked, pass, fail, looked_through}
 
@@ -112,7 +112,7 @@ named y f = same y f.name.bytes
 
 module _ (k : Placed) (i : ℕ) (g : Bytes → Bool) where
   listed_captures : {xs : List Part} {F : List Fault} → Listed k i g xs F → All (CaptureAt k i) F
-  listed_captures end = All-none
+  listed_captures end = all_none
   listed_captures (passes h l) = listed_captures l
   listed_captures (fails r h l) = also (at r) (listed_captures l)
 
@@ -152,7 +152,7 @@ once_first (f ∷ F) = go (capture f.kind) (once (f.name ∷ []) F) (once [] F)
     go false a b = refl
 
 once_all : {P : Fault → Type 0} (seen : List Part) {F : List Fault} → All P F → All P (once seen F)
-once_all seen All-none = All-none
+once_all seen all_none = all_none
 once_all {P} seen (also {a = f} {l = F} p a) =
     go (capture f.kind) (mem f.name.bytes seen) (once_all seen a) (once_all (f.name ∷ seen) a)
   where
@@ -180,6 +180,7 @@ once_named y seen (f ∷ F) m h =
 
 module _ (k : Placed) (i : ℕ) (c : capture i ≡ true) where
   capture_answers : {F : List Fault} {f : Fault} → All (CaptureAt k i) F → In f F → CaptureAt k i f → Answers (some (error_of f)) F
+  capture_answers all_none n c = elim n [ ]
   capture_answers (also (at r) a) n (at q) = one-captured c n refl refl refl refl
 
   -- a name that fails: its error is an answer beside the captures that are listed

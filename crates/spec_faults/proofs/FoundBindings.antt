@@ -53,6 +53,7 @@ module _ (t : Tree) (v : Visited) where
   -- in the home's block
   alone : (k : ℕ) → In k (v.at.block ∷ []) → eqb v.at.block k ≡ true
   alone k here = eq-eqb k k refl
+  alone k (there i) = elim i [ ]
 
   only : (k : ℕ) → eqb v.at.block k ≡ true → In k (v.at.block ∷ [])
   only k e = subst (λ i. In i (v.at.block ∷ [])) (eqb-true v.at.block k e) here

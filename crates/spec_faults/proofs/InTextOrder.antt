@@ -12,7 +12,7 @@ use Rattle.spec_text.specs.Tree.{Stmts, Tree, len_ss, first_line}
 use Rattle.spec_faults.specs.Builtins.{builtin_names}
 use Rattle.spec_faults.specs.Position.{in_module, at_module, lines_ss, visited}
 use Rattle.spec_faults.specs.Bindings.{given, Binding, bind, given_to, bindings, counts}
-use Rattle.spec_faults.specs.Faults.{earlier, among, assigned, judge}
+use Rattle.spec_faults.specs.Faults.{earlier, among, judge}
 use borrow.Author.Tests.{ne_eqb, le-leb}
 use Rattle.spec_faults.proofs.Lists.{any_append}
 use Rattle.spec_faults.proofs.Bound.{binds_ss, bound_ss, range_ss}

@@ -6,12 +6,12 @@ use native.Mathlib.Omega.{arith}
 use native.Mathlib.Nat.{le_refl, le_trans}
 use mathlib.Core.Path.{◌≡◌, refl, sym, ap, ◌∙◌, subst}
 use mathlib.Core.Logic.{◌↔◌, ◌⊎◌, inl, inr, ⊎_elim}
-use mathlib.Core.Bool.{true, false≢true}
+use mathlib.Core.Bool.{false≢true}
 use mathlib.Core.List.{List, [], ◌∷◌, ◌++◌}
 use Rattle.spec_text.specs.Bytes.{Part, In, here, there}
 use Rattle.spec_text.specs.Tree.{Line, Expr, Exprs, Attrs, Stmt, Stmts, Methods, Tree, var, node, access, tuple, call, lambda, enil, econs, anil, acons, simple, assign, block, choice, for, def, class, snil, scons, mnil, mcons, first_line}
 use Rattle.spec_faults.specs.Builtins.{builtin_names}
-use Rattle.spec_faults.specs.Position.{Placed, Home, in_module, in_def, in_method, Where, numbers, at_module, under_lambda, under_block, Use, value, Role, is_target, is_def, is_class, is_lambda, is_for, is_method, Visited, stands, under_class, lines_e, lines_es, lines_t, lines_ts, lines_as, lines_s, lines_ss, lines_ms, visited}
+use Rattle.spec_faults.specs.Position.{Placed, Home, in_module, in_def, in_method, Where, numbers, at_module, under_lambda, under_block, Use, value, Role, is_read, is_target, is_refused, is_def, is_class, is_lambda, is_other, is_for, is_method, Visited, stands, under_class, lines_e, lines_es, lines_t, lines_ts, lines_as, lines_s, lines_ss, lines_ms, visited}
 use Rattle.spec_faults.specs.Bindings.{by_param, given, Binding, bind, params, bound_by, bound_at, bound_in, given_to, bindings}
 use Rattle.spec_faults.specs.Rule.{Bound, LambdaParam}
 use Rattle.spec_faults.proofs.Ascending.{ascend_in, ascend_only, visited_ascend}
@@ -23,16 +23,23 @@ in_bound here i = in_left _ i
 in_bound (there {b = u} j) i = in_right (bound_at u) (in_bound j i)
 
 bound_in_lem : {b : Binding} (vs : List Visited) → In b (bound_in vs) → (v : Visited) × In v vs × In b (bound_at v)
+bound_in_lem [] i = elim i [ ]
 bound_in_lem (v ∷ vs) i = ⊎_elim (λ j. (v, here, j)) (λ j. let p = bound_in_lem vs j in (p.0, there p.1, p.2)) (in_either (bound_at v) i)
 
 -- it is in the block of the line's home, or a parameter of the line
 home_or_param : (r : Role) (n : ℕ) (l : Line) (k : ℕ) {b : Binding} → In b (bound_by r n l k) → (b.block ≡ k) ⊎ In b (params n l)
+home_or_param (is_read u) n l k i = elim i [ ]
 home_or_param is_target n l k here = inl refl
+home_or_param is_target n l k (there i) = elim i [ ]
+home_or_param is_refused n l k i = elim i [ ]
 home_or_param is_def n l k here = inl refl
 home_or_param is_def n l k (there i) = inr i
 home_or_param is_class n l k here = inl refl
+home_or_param is_class n l k (there i) = elim i [ ]
 home_or_param is_lambda n l k i = inr i
+home_or_param is_other n l k i = elim i [ ]
 home_or_param (is_for m) n l k here = inl refl
+home_or_param (is_for m) n l k (there i) = elim i [ ]
 home_or_param (is_method c) n l k i = inr i
 
 module _ (t : Tree) where

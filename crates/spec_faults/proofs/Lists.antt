@@ -77,6 +77,7 @@ in_map f here = here
 in_map f (there i) = there (in_map f i)
 
 pub map_in : {A B : Type 0} (f : A → B) (l : List A) {b : B} → In b (map f l) → (a : A) × In a l × (f a ≡ b)
+map_in f [] i = elim i [ ]
 map_in f (a ∷ l) here = (a, here, refl)
 map_in f (a ∷ l) (there i) = let p = map_in f l i in (p.0, there p.1, p.2)
 
@@ -109,6 +110,7 @@ all_map f none = none
 all_map f (also {a} h r) = also (f a h) (all_map f r)
 
 pub all_in : {A : Type 0} {P : A → Type 0} {a : A} {l : List A} → All P l → In a l → P a
+all_in none i = elim i [ ]
 all_in (also h r) here = h
 all_in (also h r) (there i) = all_in r i
 

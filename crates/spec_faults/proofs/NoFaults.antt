@@ -120,6 +120,7 @@ no_end [] b e = (refl, e)
 no_end (x ∷ a) b e = absurd (nil≢cons (sym e))
 
 each_line : (bs : List Binding) (vs : List Visited) → judge bs vs ≡ [] → (v : Visited) → In v vs → fault_of bs v ≡ []
+each_line bs [] e v i = elim i [ ]
 each_line bs (w ∷ vs) e v here = (no_end (fault_of bs v) (judge bs vs) e).0
 each_line bs (w ∷ vs) e v (there i) = each_line bs vs (no_end (fault_of bs w) (judge bs vs) e).1 v i
 

@@ -12,7 +12,7 @@ pub const TEXT: usize = 116;
 pub const REPEAT: usize = 114;
 
 // Where the next frame is, and how long the text is.
-#[derive(Drop)]
+#[derive(Clone, Copy)]
 pub struct Step {
     pub at: usize,
     pub len: usize,

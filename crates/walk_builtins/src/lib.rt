@@ -1,5 +1,6 @@
 // The thirteen built-in names, as a table of their bytes and a table of their lengths, and the search for a name among them.
 #![tactic(auto)]
+
 ghost use Rattle.std.specs.Prelude.{◌≡◌, ◌≤◌, length};
 ghost use Rattle.spec_text.specs.Bytes.{same, mem};
 ghost use Rattle.spec_faults.specs.Builtins.{builtin_names};

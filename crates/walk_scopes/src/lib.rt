@@ -21,7 +21,7 @@ pub const HOME_METHOD: usize = 2;
 
 // The scope on top: its home, its row and the row after it. The module goes by the row ROWS_MOST and its number of rows, which is after every
 // row that there can be.
-#[derive(Drop)]
+#[derive(Clone, Copy)]
 pub struct ScopeStack {
     pub home: usize,
     pub row: usize,
@@ -159,7 +159,7 @@ fn is_bound(work: &[u32], name: usize, i: usize) -> bool
 
 // The lambdas around an expression, in its home: the rows after the outermost and the innermost, or 0. An expression is handed them by value
 // and hands none back: so they need no stack.
-#[derive(Drop)]
+#[derive(Clone, Copy)]
 pub struct Lambdas {
     pub outer: usize,
     pub inner: usize,

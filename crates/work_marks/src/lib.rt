@@ -1,5 +1,6 @@
 // Marks of names and slots of rows, in the bits of the work buffer that the rows and the names leave free.
 #![tactic(auto)]
+
 ghost use Rattle.std.specs.Prelude.{◌≡◌, ◌+◌, ◌<◌, ◌≤◌, length};
 ghost use Rattle.work_marks.specs.MarksModel.{lambda_end, block_end, slot_at, stamp_at, flag_at, link_at, put_lambda_end, put_block_end, put_slot, put_stamp, put_flag, put_link, unmarked, unstamped, raised_lambda, raised_block};
 
@@ -65,6 +66,7 @@ fn put_block_end(work: &mut [u32], name: usize, end: usize)
 }
 
 // The name is open as a parameter of a lambda up to the row `end`, at least.
+#[tactic(auto, unfolding(crate::specs::MarksModel::raised_lambda))]
 pub fn raise_lambda(work: &mut [u32], name: usize, end: usize)
     ensures { work.new ≡ raised_lambda work.old name end }
 {
@@ -76,6 +78,7 @@ pub fn raise_lambda(work: &mut [u32], name: usize, end: usize)
 }
 
 // The name is bound up to the row `end`, at least.
+#[tactic(auto, unfolding(crate::specs::MarksModel::raised_block))]
 pub fn raise_block(work: &mut [u32], name: usize, end: usize)
     ensures { work.new ≡ raised_block work.old name end }
 {
@@ -94,6 +97,7 @@ pub fn slot(work: &[u32], i: usize) -> usize
     work_rows::get(work, HEAD_BASE + i) / SLOTS
 }
 
+#[tactic(auto, unfolding(crate::specs::MarksModel::put_slot))]
 pub fn put_slot(work: &mut [u32], i: usize, kind: usize)
     requires { i < 4294967296 }
     ensures { work.new ≡ put_slot work.old i kind }

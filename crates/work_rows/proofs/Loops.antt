@@ -1,6 +1,6 @@
 -- Loops over rows: the loop ends at a row past its last, and goes on at the next row before that. Each row found lies after the one
 -- before it, so any count of steps that is not below the number of rows left does.
-use Prim.Native.Nat.{ℕ, zero, suc, ◌+◌, ◌-◌, ◌≤◌, ◌<◌}
+use Prim.Native.Nat.{ℕ, zero, suc, ◌-◌, ◌≤◌, ◌<◌}
 use native.Mathlib.Omega.{arith}
 use mathlib.Core.Path.{◌≡◌, refl, sym, ap, ◌∙◌}
 use mathlib.Core.Bool.{cond}

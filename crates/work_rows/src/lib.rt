@@ -1,5 +1,6 @@
 // The work buffer's numbers: read and written at any index, and the parts of a row.
 #![tactic(auto)]
+
 ghost use Rattle.std.specs.Prelude.{◌≡◌, ◌+◌, ◌%◌, ◌<◌, ◌≤◌, get_or};
 ghost use Rattle.work_rows.specs.Layout.{put, kind_at, lines_below, after_row, offset_at, same_at, number_at};
 

@@ -1,5 +1,6 @@
 // Bytes written to a buffer one after the other, as many as there is room for; numbers in decimal.
 #![tactic(auto)]
+
 ghost use Rattle.std.specs.Prelude.{◌≡◌, [], ◌∷◌, ◌≤◌, ◌%◌, length};
 ghost use Rattle.spec_text.specs.Writing.{digits, decimal_of};
 ghost use Rattle.write_bytes.specs.PushModel.{Pushes};
