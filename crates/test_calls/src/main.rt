@@ -10,11 +10,13 @@
 //   n i _      name of fault i
 //   v _ _      version
 #![tactic(auto)]
-ghost use Rattle.std.specs.Prelude.{◌<◌};
+
+ghost use Rattle.std.specs.Prelude.{◌<◌, IfOk};
 
 use serduzhap_c::{
     CHECK_ANSWER, MESSAGE_ANSWER, NAME_ANSWER, REPORT_ANSWER, VERSION_ANSWER, WRITTEN,
 };
+use std::io;
 use test_frames::Step;
 
 // The letters of calls: c, p, q, m, v; any other is n.
@@ -66,92 +68,107 @@ fn sum_of_bytes(bytes: &[u8]) -> usize {
 }
 
 // Says a number.
-fn say_number(n: u32) {
-    test_frames::put(test_frames::wide(n), b"\t");
+fn say_number(rt: &impl Print, n: u32) -> io::Result<()> {
+    test_frames::put(rt, test_frames::wide(n), b"\t")
 }
 
 // Says all numbers of an answer.
-fn say_answer(answer: &[u32]) {
+fn say_answer(rt: &impl Print, answer: &[u32]) -> io::Result<()> {
     let mut i = 0;
     while i < answer.len() {
-        say_number(answer[i]);
+        say_number(rt, answer[i])?;
         i += 1;
     }
+    Ok(())
 }
 
 // The same of two numbers, and of seven.
-fn say_two(answer: &[u32; 2]) {
-    say_answer(answer);
+fn say_two(rt: &impl Print, answer: &[u32; 2]) -> io::Result<()> {
+    say_answer(rt, answer)
 }
 
-fn say_seven(answer: &[u32; CHECK_ANSWER]) {
-    say_answer(answer);
+fn say_seven(rt: &impl Print, answer: &[u32; CHECK_ANSWER]) -> io::Result<()> {
+    say_answer(rt, answer)
 }
 
-fn check(text: &[u8], work: &mut [u32], value: u32) {
+fn check(rt: &impl Print, text: &[u8], work: &mut [u32], value: u32) -> io::Result<()> {
     let mut answer = [ONES; CHECK_ANSWER];
     test_frames::fill(work, value);
     serduzhap_c::serduzhap_check(text, work, &mut answer);
-    test_frames::say(b"check\t");
-    say_seven(&answer);
-    test_frames::say(b"\n");
+    test_frames::say(rt, b"check\t")?;
+    say_seven(rt, &answer)?;
+    test_frames::say(rt, b"\n")
 }
 
-fn report(text: &[u8], work: &mut [u32], out: &mut [u32], value: u32) {
+fn report(
+    rt: &impl Print,
+    text: &[u8],
+    work: &mut [u32],
+    out: &mut [u32],
+    value: u32,
+) -> io::Result<()> {
     let mut answer = [ONES; REPORT_ANSWER];
     test_frames::fill(work, value);
     test_frames::fill(out, value);
     serduzhap_c::serduzhap_report(text, work, out, &mut answer);
-    test_frames::say(b"report\t");
-    say_two(&answer);
-    test_frames::put(sum_of(out), b"\n");
+    test_frames::say(rt, b"report\t")?;
+    say_two(rt, &answer)?;
+    test_frames::put(rt, sum_of(out), b"\n")
 }
 
 // Says the bytes that a message was written to, if it was.
-fn say_written(number: usize, len: usize, out: &[u8]) {
+fn say_written(rt: &impl Print, number: usize, len: usize, out: &[u8]) -> io::Result<()> {
     if number == WRITTEN {
-        test_frames::say(test_frames::first(out, len));
+        test_frames::say(rt, test_frames::first(out, len))?;
     }
-    test_frames::say(b"\t");
+    test_frames::say(rt, b"\t")
 }
 
 // Writes the message of fault i to the output.
-fn message(text: &[u8], work: &mut [u32], i: usize, out: &mut [u8]) {
+fn message(
+    rt: &impl Print,
+    text: &[u8],
+    work: &mut [u32],
+    i: usize,
+    out: &mut [u8],
+) -> io::Result<()> {
     let mut answer = [ONES; MESSAGE_ANSWER];
     test_frames::fill(work, ONES);
     fill_bytes(out, 255);
     serduzhap_c::serduzhap_message(text, work, i, out, &mut answer);
-    test_frames::say(b"message\t");
-    say_two(&answer);
+    test_frames::say(rt, b"message\t")?;
+    say_two(rt, &answer)?;
     say_written(
+        rt,
         test_frames::wide(answer[0]),
         test_frames::wide(answer[1]),
         out,
-    );
-    test_frames::put(sum_of_bytes(out), b"\n");
+    )?;
+    test_frames::put(rt, sum_of_bytes(out), b"\n")
 }
 
 // The name as the part that C is told, and as the slice that Rattle is handed.
-fn name(text: &[u8], work: &mut [u32], i: usize) {
+fn name(rt: &impl Print, text: &[u8], work: &mut [u32], i: usize) -> io::Result<()> {
     let mut answer = [ONES; NAME_ANSWER];
     test_frames::fill(work, ONES);
     serduzhap_c::serduzhap_name(text, work, i, &mut answer);
-    test_frames::say(b"name\t");
-    say_answer(&answer);
-    test_frames::say(serduzhap::name(text, work, i));
-    test_frames::say(b"\n");
+    test_frames::say(rt, b"name\t")?;
+    say_answer(rt, &answer)?;
+    test_frames::say(rt, serduzhap::name(text, work, i))?;
+    test_frames::say(rt, b"\n")
 }
 
-fn version() {
+fn version(rt: &impl Print) -> io::Result<()> {
     let mut answer = [ONES; VERSION_ANSWER];
     serduzhap_c::serduzhap_version(&mut answer);
-    test_frames::say(b"version\t");
-    say_answer(&answer);
-    test_frames::say(b"\n");
+    test_frames::say(rt, b"version\t")?;
+    say_answer(rt, &answer)?;
+    test_frames::say(rt, b"\n")
 }
 
 // Runs the call of a letter.
 fn call(
+    rt: &impl Print,
     letter: usize,
     a: usize,
     b: usize,
@@ -159,47 +176,49 @@ fn call(
     work: &mut [u32],
     out: &mut [u32],
     bytes: &mut [u8],
-) {
+) -> io::Result<()> {
     let n = test_frames::least(a, work.len());
     let k = test_frames::least(b, out.len());
     let m = test_frames::least(b, bytes.len());
     match letter {
-        CHECK => check(text, &mut work[0..n], narrow(b)),
-        REPORT => report(text, &mut work[0..n], &mut out[0..k], ONES),
-        REPORT_ZEROS => report(text, &mut work[0..n], &mut out[0..k], 0),
-        MESSAGE => message(text, work, a, &mut bytes[0..m]),
-        VERSION => version(),
-        _ => name(text, work, a),
+        CHECK => check(rt, text, &mut work[0..n], narrow(b)),
+        REPORT => report(rt, text, &mut work[0..n], &mut out[0..k], ONES),
+        REPORT_ZEROS => report(rt, text, &mut work[0..n], &mut out[0..k], 0),
+        MESSAGE => message(rt, text, work, a, &mut bytes[0..m]),
+        VERSION => version(rt),
+        _ => name(rt, text, work, a),
     }
 }
 
 // Runs the frame at s, and answers where the next one is.
 fn frame(
+    rt: &impl Print,
     all: &[u8],
     s: Step,
     text: &mut [u8],
     work: &mut [u32],
     out: &mut [u32],
     bytes: &mut [u8],
-) -> Step
+) -> io::Result<Step>
     requires { s.at < 4294967296 }
-    ensures { s.at < result.at }
+    ensures { IfOk result (λ next. s.at < next.at) }
 {
     let a = test_frames::number(all, s.at + 1);
     let b = test_frames::number(all, s.at + 5);
     let from = s.at + 9;
     let end = from + b;
     match test_frames::byte_at(all, s.at) {
-        test_frames::TEXT => Step {
+        test_frames::TEXT => Ok(Step {
             at: end,
             len: test_frames::copy(all, from, end, text, 0),
-        },
-        test_frames::REPEAT => Step {
+        }),
+        test_frames::REPEAT => Ok(Step {
             at: end,
             len: test_frames::copies(all, from, end, a, text, s.len),
-        },
+        }),
         letter => {
             call(
+                rt,
                 letter,
                 a,
                 b,
@@ -207,28 +226,29 @@ fn frame(
                 work,
                 out,
                 bytes,
-            );
-            Step {
+            )?;
+            Ok(Step {
                 at: from,
                 len: s.len,
-            }
+            })
         }
     }
 }
 
-fn run(all: &[u8]) {
+fn run(rt: &impl Print, all: &[u8]) -> io::Result<()> {
     let mut text = [0u8; 70000];
     let mut work = [0u32; 16400];
     let mut out = [0u32; 16400];
     let mut bytes = [0u8; 512];
     let mut s = Step { at: 0, len: 0 };
     while s.at < all.len() && s.at < 4294967296 {
-        s = frame(all, s, &mut text, &mut work, &mut out, &mut bytes);
+        s = frame(rt, all, s, &mut text, &mut work, &mut out, &mut bytes)?;
     }
+    Ok(())
 }
 
-fn main() {
+fn main(rt: HostRuntime) -> io::Result<()> {
     let mut all = [0u8; 262144];
-    let n = io::read_full(0, &mut all);
-    run(&all[0..n]);
+    let n = test_frames::read_full(&rt, &mut all)?;
+    run(&rt, &all[0..n])
 }

@@ -1,8 +1,10 @@
 // What the replay programs share: frames of numbers and bytes from standard input, buffers filled and copied, sums, and lines written.
 #![tactic(auto)]
-ghost use Rattle.std.specs.Prelude.{◌≤◌, ◌<◌, length};
 
-use libc::STDOUT_FILENO;
+ghost use Rattle.std.specs.Prelude.{◌≤◌, ◌<◌, IfOk, length};
+
+use std::io;
+use std::io::Read;
 
 // The letters of the frames that make a text: t, these bytes; r, copies of these bytes more.
 pub const TEXT: usize = 116;
@@ -95,13 +97,29 @@ pub fn fill(work: &mut [u32], value: u32) {
     }
 }
 
-pub fn say(bytes: &[u8]) {
-    io::write_all(STDOUT_FILENO, bytes);
+// Reads until a buffer is full or the input ends, and answers how many bytes it put at the start of the buffer.
+pub fn read_full(rt: &impl Input, to: &mut [u8]) -> io::Result<usize>
+    ensures { IfOk result (λ n. n ≤ length to.new) }
+{
+    let mut input = rt.reader();
+    let mut done = 0;
+    while done < to.len() {
+        let n = input.read(&mut to[done..])?;
+        if n == 0 {
+            break;
+        }
+        done += n;
+    }
+    Ok(done)
 }
 
-pub fn put(n: usize, after: &[u8]) {
-    io::print_decimal(STDOUT_FILENO, n as u64);
-    say(after);
+pub fn say(rt: &impl Print, bytes: &[u8]) -> io::Result<()> {
+    rt.write_all(bytes)
+}
+
+pub fn put(rt: &impl Print, n: usize, after: &[u8]) -> io::Result<()> {
+    rt.print(n)?;
+    say(rt, after)
 }
 
 // One number more in a sum of 32 bits.
