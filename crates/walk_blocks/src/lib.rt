@@ -1,5 +1,6 @@
 // The way into a block: its parameters are bound, and in a def each `var` is flagged by how its name stands to the def.
 #![tactic(auto)]
+
 ghost use Rattle.std.specs.Prelude.{◌≡◌, ◌≤◌};
 ghost use Rattle.read_row.specs.RowModel.{params_of};
 ghost use Rattle.walk_scopes.specs.ScopesModel.{scope_of, defined};
