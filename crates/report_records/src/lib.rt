@@ -1,5 +1,6 @@
 // The record of a listed fault: seven numbers.
 #![tactic(auto)]
+
 ghost use Rattle.std.specs.Prelude.{◌≡◌, ◌<◌, ◌≤◌, ◌+◌, length, take, drop, ◌++◌, cond};
 ghost use Rattle.report_records.specs.RecordsModel.{record_of, numbers32};
 
@@ -31,6 +32,7 @@ fn pick(test: bool, yes: usize, no: usize) -> usize
 }
 
 // The record of an entry.
+#[tactic(auto, unfolding(crate::specs::RecordsModel::record_of))]
 pub fn record_of(text: &[u8], work: &[u32], e: Entry) -> Record
     requires { (e.of < 4294967296) × (e.row < 4294967296) }
     ensures { result ≡ record_of text.now work.now e }
