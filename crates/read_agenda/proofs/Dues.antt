@@ -6,9 +6,10 @@ use mathlib.Core.List.{List, [], ◌∷◌, ◌++◌, map, append_assoc, append-
 use lib.ListN.{length, get_or}
 use Rattle.spec_text.specs.Tree.{Line, Expr, Stmt, Stmts, len_e, len_ss}
 use Rattle.spec_text.specs.Lines.{StmtForm, ExprForm, Form, as_sort}
-use Rattle.spec_text.specs.Reading.{Rest, Read, line, exprs, attrs, stmts, methods, expr, elif_line, stmt, elif, methods_at, attrs_at, globals}
+use Rattle.spec_text.specs.Reading.{Rest, Read, line, exprs, attrs, stmts, methods, expr_children, expr, stmt_children, elif_line, stmt, elif, methods_at, attrs_at, globals}
 use Rattle.work_rows.specs.Rows.{Row, row, rows_e, rows_es, rows_as, rows_s, rows_ss, rows_ms, global_row}
-use Rattle.read_agenda.specs.AgendaModel.{Entry, run, close, due}
+use Rattle.read_words.specs.ChildrenModel.{children_in}
+use Rattle.read_agenda.specs.AgendaModel.{Entry, run, close, due, due_below}
 use Rattle.work_rows.proofs.Lengths.{nothing, both, sized_e, sized_es, sized_as, sized_ss, sized_ms}
 use Rattle.read_agenda.proofs.Via.{at, via_same, via_close, Goes, goes_on, goes_from, goes_then, goes_refused, refuses_then}
 use Rattle.read_agenda.proofs.Sorts.{expr_sorts, stmt_sorts, elif_sorts, method_sorts, attr_sorts, global_sorts}
@@ -38,7 +39,10 @@ stmts_go h (suc n) more rows r =
 expr_go : (d : ℕ) → One 6 d rows_e (expr d)
 expr_go zero n more rows r = goes_refused (too_deep_lem 6 expr_sorts n more rows r)
 expr_go (suc d) n more rows r =
-    line_then 6 expr_sorts n more rows r d _ (λ i l counts r t. elim i [
+    line_then 6 expr_sorts n more rows r d _ (λ i l counts r t. elim i as (λ k.
+    Goes (at (due_below (children_in (parsed_as (Form.expr k) l counts)) d (close (length rows) ∷ due 6 n (suc d) more)) r (rows ++ (row l 0 ∷ [])))
+    (λ e left. at (due 6 n (suc d) more) left (rows ++ rows_e e))
+    (expr_children (expr d) k (parsed_as (Form.expr k) l counts) r)) [
       | ExprForm.fixed k ↦ goes_then (exprs_go (expr_go d) k _ _ r) (λ es r. goes_on (via_close rows l (sized_es es) refl))
       | ExprForm.counted k ↦ goes_then (exprs_go (expr_go d) (k * get_or counts 0 0) _ _ r) (λ es r. goes_on (via_close rows l (sized_es es) refl))
       | ExprForm.access k ↦ goes_then (exprs_go (expr_go d) k _ _ r) (λ es r. goes_on (via_close rows l (sized_es es) refl))
@@ -67,10 +71,10 @@ attrs_go {d} h (suc n) more rows r =
 
 -- ---- statements
 -- a condition and statements: `while`, `elif`
-block_go : (d : ℕ) {one : Rest → Read Stmt} → Many 5 d rows_ss (stmts one) → {more : List Entry} (rows : List Row) (l : Line) (counts : List ℕ) (r : Rest)
+block_go : (d : ℕ) (one : Rest → Read Stmt) → Many 5 d rows_ss (stmts one) → {more : List Entry} (rows : List Row) (l : Line) (counts : List ℕ) (r : Rest)
     → Goes (at (run 6 1 d ∷ due 5 (get_or counts 0 0) d (close (length rows) ∷ more)) r (rows ++ (row l 0 ∷ []))) (λ s left. at more left (rows ++ rows_s s))
     (elif_line (expr d) one (parsed_as Form.elif l counts) r)
-block_go d h rows l counts r =
+block_go d one h rows l counts r =
     goes_then (expr_go d 0 _ _ r) (λ c r. goes_then (h (get_or counts 0 0) _ _ r) (λ b r.
     goes_on (via_close rows l (both (sized_e c) (sized_ss b)) (simp append_assoc))))
 
@@ -79,11 +83,14 @@ mutual
   stmt_go zero n more rows r = goes_refused (too_deep_lem 5 stmt_sorts n more rows r)
   stmt_go (suc d) n more rows r =
       let body : Many 5 d rows_ss (stmts (stmt d)) = stmts_go (λ n more rows r. stmt_go d n more rows r) in
-      line_then 5 stmt_sorts n more rows r d _ (λ i l counts r t. elim i [
+      line_then 5 stmt_sorts n more rows r d _ (λ i l counts r t. elim i as (λ k.
+      Goes (at (due_below (children_in (parsed_as (Form.stmt k) l counts)) d (close (length rows) ∷ due 5 n (suc d) more)) r (rows ++ (row l 0 ∷ [])))
+      (λ s left. at (due 5 n (suc d) more) left (rows ++ rows_s s))
+      (stmt_children (expr d) (stmt d) (elif d) (methods_at d) (attrs_at d) k (parsed_as (Form.stmt k) l counts) r)) [
         | StmtForm.plain k ↦ goes_then (exprs_go (expr_go d) k _ _ r) (λ es r. goes_on (via_close rows l (sized_es es) refl))
         | StmtForm.assign ↦
             goes_then (expr_go d 1 _ _ r) (λ e r. goes_then (expr_go d 0 _ _ r) (λ t r. goes_on (via_close rows l (both (sized_e e) (sized_e t)) (simp append_assoc))))
-        | StmtForm.while ↦ block_go d body rows l counts r
+        | StmtForm.while ↦ block_go d (stmt d) body rows l counts r
         | StmtForm.if ↦
             goes_then (expr_go d 0 _ _ r) (λ c r.
             goes_then (body (get_or counts 0 0) _ _ r) (λ b r.
@@ -103,7 +110,7 @@ mutual
   elif_go : (d : ℕ) → One 2 d rows_s (elif d)
   elif_go zero n more rows r = goes_refused (too_deep_lem 2 elif_sorts n more rows r)
   elif_go (suc d) n more rows r =
-      line_then 2 elif_sorts n more rows r d _ (λ i l counts r t. block_go d (stmts_go (λ n more rows r. stmt_go d n more rows r)) rows l counts r)
+      line_then 2 elif_sorts n more rows r d _ (λ i l counts r t. block_go d (stmt d) (stmts_go (λ n more rows r. stmt_go d n more rows r)) rows l counts r)
 
   methods_at_go : (d : ℕ) → Many 3 d rows_ms (methods_at d)
   methods_at_go zero zero more rows r = goes_on (via_same (sym (append-nil rows)))

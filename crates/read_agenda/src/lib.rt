@@ -1,5 +1,6 @@
 // The agenda: which lines are due, the next one on top, as a stack in the work buffer.
 #![tactic(auto)]
+
 ghost use Rattle.std.specs.Prelude.{◌≡◌, ◌+◌, ◌<◌, ◌≤◌};
 ghost use Rattle.read_words.specs.ChildrenModel.{Few};
 ghost use Rattle.read_agenda.specs.StackModel.{stack, pushed, pushed_close, pushed_below, is_leaf, pushed_due, lessened};

@@ -1,5 +1,6 @@
 // One line of the tree text: its word, and then the fields that the word's row of the table asks for.
 #![tactic(auto)]
+
 ghost use Rattle.std.specs.Prelude.{◌≡◌};
 ghost use Rattle.read_line.specs.LineModel.{line_at, no_line};
 ghost use Rattle.read_line.specs.StepsModel.{span_from, count_from, own_from, params_from};
@@ -37,6 +38,7 @@ pub struct Params {
     pub next: Cursor,
 }
 
+#[tactic(auto, unfolding(crate::specs::StepsModel::span_from))]
 fn span(c: Cursor, text: &[u8], due: bool) -> Number
     ensures { result ≡ span_from due text.now c }
 {
@@ -47,6 +49,7 @@ fn span(c: Cursor, text: &[u8], due: bool) -> Number
     }
 }
 
+#[tactic(auto, unfolding(crate::specs::StepsModel::count_from))]
 fn count(c: Cursor, text: &[u8], due: bool) -> Number
     ensures { result ≡ count_from due text.now c }
 {
@@ -58,6 +61,7 @@ fn count(c: Cursor, text: &[u8], due: bool) -> Number
 }
 
 // The line's own name.
+#[tactic(auto, unfolding(crate::specs::StepsModel::own_from))]
 fn name_if_due(c: Cursor, text: &[u8], due: bool) -> Name
     ensures { result ≡ own_from due text.now c }
 {

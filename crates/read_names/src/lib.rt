@@ -1,6 +1,7 @@
 // Numbers the names of rows: the number of a name is the earliest row that has it. New names with one hash are a chain, from a head
 // through links that fall, in the work buffer.
 #![tactic(auto)]
+
 ghost use Rattle.std.specs.Prelude.{◌≡◌, ◌<◌, ◌≤◌, length, List, []};
 ghost use Rattle.spec_text.specs.Bytes.{Bytes};
 ghost use Rattle.read_names.specs.Names.{earliest};

@@ -1,5 +1,6 @@
 // The table of words in code: which word a field is, the fields of its line, and the lines due below it.
 #![tactic(auto)]
+
 ghost use Rattle.std.specs.Prelude.{◌≡◌, ◌<◌};
 ghost use Rattle.read_words.specs.WordsModel.{no_kind, kind_from, or_word, shape_of};
 ghost use Rattle.read_words.specs.ChildrenModel.{children_by};

@@ -1,5 +1,6 @@
 // Lists the faults in the report's order, from the slots: at each row those that have it as their place.
 #![tactic(auto)]
+
 ghost use Rattle.std.specs.Prelude.{◌≡◌, ◌||◌, [], ◌∷◌, ◌+◌, ◌-◌, ◌<◌, ◌≤◌, eqb, length};
 ghost use Rattle.spec_faults.specs.Faults.{capture};
 ghost use Rattle.report_order.specs.OrderModel.{entry, slot_in, captured, captures, called, itself, around, placed_at, entries, stored, entry_at, any_fault};

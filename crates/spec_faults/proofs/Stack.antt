@@ -6,7 +6,7 @@ use mathlib.Core.List.{List, [], ◌∷◌, ◌++◌}
 use Rattle.spec_text.specs.Bytes.{Bytes, Part, mem, same}
 use Rattle.spec_faults.proofs.Lists.{same_eq, mem_append}
 use Rattle.spec_faults.specs.Builtins.{builtin_names}
-use Rattle.spec_faults.specs.Rust.{ScopeStack, new, push, pop, define, define_all, define_new, is_defined_lem, known}
+use Rattle.spec_faults.specs.Rust.{ScopeStack, new, push, pop, define, define_all, define_new, is_defined, known}
 
 or_swap : (a b c : Bool) → (a || (b || c)) ≡ (b || a || c)
 or_swap a b c = sym (or_assoc a b c) ∙ ap (λ t. t || c) (or_comm a b)
@@ -28,8 +28,8 @@ open_define y (t ∷ st) b o = o
 known_define : (x : Bytes) (y : Part) (st b : ScopeStack) → Open st b → known (define y st) x ≡ (same x y.bytes || known st x)
 known_define x y [] b o = absurd o
 known_define x y (t ∷ st) b o =
-    ap (λ c. c || mem x builtin_names) (or_assoc (same x y.bytes) (mem x t) (is_defined_lem x st))
-    ∙ or_assoc (same x y.bytes) (is_defined_lem x (t ∷ st)) (mem x builtin_names)
+    ap (λ c. c || mem x builtin_names) (or_assoc (same x y.bytes) (mem x t) (is_defined x st))
+    ∙ or_assoc (same x y.bytes) (is_defined x (t ∷ st)) (mem x builtin_names)
 
 open_all : (ps : List Part) (st b : ScopeStack) → Open st b → Open (define_all ps st) b
 open_all [] st b o = o
@@ -63,13 +63,13 @@ view_define y {b} {st} h =
 
 -- a name that is defined already is in view already
 pub view_new : (y : Part) {b st : ScopeStack} {names : List Part} → View b st names → View b (define_new y st) (y ∷ names)
-view_new y {b} {st} {names} h = go (is_defined_lem y.bytes st) refl
+view_new y {b} {st} {names} h = go (is_defined y.bytes st) refl
   where
-    again : is_defined_lem y.bytes st ≡ true → (x : Bytes) (t : Bool) → same x y.bytes ≡ t → known st x ≡ (t || mem x names)
+    again : is_defined y.bytes st ≡ true → (x : Bytes) (t : Bool) → same x y.bytes ≡ t → known st x ≡ (t || mem x names)
     again e x true f = rw (same_eq x y.bytes f, e)
     again e x false f = h.seen x
 
-    go : (t : Bool) → is_defined_lem y.bytes st ≡ t → View b (cond t st (define y st)) (y ∷ names)
+    go : (t : Bool) → is_defined y.bytes st ≡ t → View b (cond t st (define y st)) (y ∷ names)
     go true e = record { opened = h.opened; seen = λ x. again e x (same x y.bytes) refl }
     go false e = view_define y h
 

@@ -1,4 +1,4 @@
--- The walk of src/semantic/mod.rs up to the type check, function by function under its own names (with `-` for `_`), with its early exit.
+-- The walk of src/semantic/mod.rs up to the type check, function by function under its own names, with its early exit.
 -- A HashSet is a list of names. Only membership is asked of it, but for the captured names of a lambda: these are looked through, in an
 -- order that is any (`Order`). `ctx.builtins` is the table of built-in names, and `ctx.functions`, which only the type check reads, is left out.
 -- An expression leaves the stack as it found it (each push has its pop), so its walk hands back no stack.
@@ -27,9 +27,9 @@ abbrev pub define : Part → ScopeStack → ScopeStack
 define x [] = []
 define x (s ∷ st) = (x ∷ s) ∷ st
 
-abbrev pub is_defined_lem : Bytes → ScopeStack → Bool
-is_defined_lem x [] = false
-is_defined_lem x (s ∷ st) = mem x s || is_defined_lem x st
+abbrev pub is_defined : Bytes → ScopeStack → Bool
+is_defined x [] = false
+is_defined x (s ∷ st) = mem x s || is_defined x st
 
 -- for p in params { scopes.define(p.clone()); }
 abbrev pub define_all : List Part → ScopeStack → ScopeStack
@@ -38,7 +38,7 @@ define_all (x ∷ xs) st = define_all xs (define x st)
 
 -- if !scopes.is_defined(name) { scopes.define(name.clone()); }
 abbrev pub define_new : Part → ScopeStack → ScopeStack
-define_new x st = cond (is_defined_lem x.bytes st) st (define x st)
+define_new x st = cond (is_defined x.bytes st) st (define x st)
 
 -- ---- errors: the message, as FORMAT.md numbers it, and the span
 pub record SemanticError : Type 0 where
@@ -110,7 +110,7 @@ callee_or (lambda l e) name other = other
 -- ---- what is asked of a name
 -- !scopes.is_defined(name) && !ctx.is_builtin(name) is the error
 abbrev pub known : ScopeStack → Bytes → Bool
-known st x = is_defined_lem x st || mem x builtin_names
+known st x = is_defined x st || mem x builtin_names
 
 -- if locals.contains(name) { assigned.contains(name), or the error e } else { is_defined or built-in, or the error f }
 abbrev pub check_name : List Part → List Part → ScopeStack → Bytes → SemanticError → SemanticError → Checked

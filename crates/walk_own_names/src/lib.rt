@@ -2,6 +2,7 @@
 // own name of the def, and whether it is assigned at that row. Own names are gathered first, each with a stamp, the first row from which
 // it is assigned; then the flags are set, and the stamps are forgotten. A stamp that does not come after the def's row is an old one.
 #![tactic(auto)]
+
 ghost use Rattle.std.specs.Prelude.{◌≡◌, ◌<◌, ◌≤◌};
 ghost use Rattle.work_rows.specs.Layout.{number_at};
 ghost use Rattle.work_marks.specs.MarksModel.{stamp_at};
@@ -12,6 +13,7 @@ use work_marks::{ASSIGNED, NEVER, NOT_OWN, UNASSIGNED};
 use work_rows::ROWS_MOST;
 
 // The def at row b has the name of its own, assigned from a row on.
+#[tactic(auto, unfolding(crate::specs::OwnNamesModel::noted))]
 pub fn note_name(work: &mut [u32], b: usize, name: usize, from: usize)
     ensures { work.new ≡ noted b name from work.old }
 {
@@ -27,6 +29,7 @@ pub fn note_name(work: &mut [u32], b: usize, name: usize, from: usize)
 }
 
 // Notes what row i binds.
+#[tactic(auto, unfolding(crate::specs::OwnNamesModel::row_binds))]
 fn note_row(work: &mut [u32], b: usize, i: usize)
     requires { i ≤ 16384 }
     ensures { work.new ≡ row_binds (noted b) i work.old }
@@ -54,6 +57,7 @@ fn is_binding(kind: usize) -> bool
 }
 
 // Forgets what was noted of row i.
+#[tactic(auto, unfolding(crate::specs::OwnNamesModel::row_binds))]
 fn forget_row(work: &mut [u32], i: usize)
     requires { i ≤ 16384 }
     ensures { work.new ≡ row_binds forgot i work.old }
@@ -64,6 +68,7 @@ fn forget_row(work: &mut [u32], i: usize)
 }
 
 // The next row that may bind a name in the block: past nested defs and classes, and past expressions that are no targets.
+#[tactic(auto, unfolding(crate::specs::OwnNamesModel::next_binding))]
 fn next_binding(work: &[u32], i: usize) -> usize
     requires { i ≤ 16384 }
     ensures { (result ≡ next_binding work.now i) × (i < result) }
@@ -117,6 +122,7 @@ fn flag_of(work: &[u32], b: usize, i: usize) -> usize
 }
 
 // Flags row i, if it is a `var`.
+#[tactic(auto, unfolding(crate::specs::OwnNamesModel::row_flagged))]
 fn flag_row(work: &mut [u32], b: usize, i: usize)
     requires { i ≤ 16384 }
     ensures { work.new ≡ row_flagged b i work.old }
@@ -127,6 +133,7 @@ fn flag_row(work: &mut [u32], b: usize, i: usize)
 }
 
 // The next row of the block: past nested defs and classes.
+#[tactic(auto, unfolding(crate::specs::OwnNamesModel::next_in_block))]
 fn next_in_block(work: &[u32], i: usize) -> usize
     requires { i ≤ 16384 }
     ensures { (result ≡ next_in_block work.now i) × (i < result) }

@@ -5,6 +5,7 @@
 // The four operations take the struct apart, and call functions on slices, numbers and structs by value. The functions of the same names after
 // them have plain parameters and lend the stack for one operation: these are for the walk.
 #![tactic(auto)]
+
 ghost use Rattle.std.specs.Prelude.{◌≡◌, ◌<◌};
 ghost use Rattle.work_marks.specs.MarksModel.{put_link, raised_block};
 ghost use Rattle.walk_scopes.specs.ScopesModel.{at_module, scope_at, below, is_defined, no_lambdas, within, scope_of, owns};
@@ -72,6 +73,7 @@ impl ScopeStack {
     }
 
     // The scope that the row of this one links to.
+    #[tactic(auto, unfolding(crate::specs::ScopesModel::below))]
     fn popped(self, work: &[u32]) -> ScopeStack
         ensures { result ≡ below work.now self }
     {
@@ -117,6 +119,7 @@ pub fn is_defined(work: &[u32], s: ScopeStack, name: usize, i: usize) -> bool
 // ---- on slices and numbers
 
 // The scope of the def or the method at a row, or the module.
+#[tactic(auto, unfolding(crate::specs::ScopesModel::scope_at))]
 fn scope_at(work: &[u32], row: usize) -> ScopeStack
     requires { row < 4294967296 }
     ensures { result ≡ scope_at work.now row }
