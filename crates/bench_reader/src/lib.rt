@@ -1,5 +1,6 @@
 // The reader for C and Rust: a slice is a pointer and a count, the answer a struct of numbers.
 #![tactic(auto)]
+
 ghost use Rattle.std.specs.Prelude.{◌≡◌, length};
 ghost use Rattle.spec_text.specs.Reading.{reading};
 ghost use Rattle.read_tree.specs.Laid.{answer_of, Kept};
