@@ -1,5 +1,6 @@
 // Judges a read: the kind of its fault goes to its row's slot.
 #![tactic(auto)]
+
 ghost use Rattle.std.specs.Prelude.{◌≡◌, ◌<◌};
 ghost use Rattle.spec_faults.specs.Faults.{lacks_self};
 ghost use Rattle.read_row.specs.RowModel.{params_of};
@@ -11,6 +12,7 @@ use walk_scopes::{HOME_DEF, HOME_MODULE, Lambdas, ScopeStack};
 use work_marks::{ASSIGNED, NOT_OWN, UNASSIGNED};
 
 // The kind of a fault of an own name that is not assigned.
+#[tactic(auto, unfolding(crate::specs::JudgeModel::unbound_kind))]
 fn unbound_kind(l: Lambdas, called: bool) -> usize
     ensures { result ≡ unbound_kind l.outer called }
 {
@@ -25,6 +27,7 @@ fn unbound_kind(l: Lambdas, called: bool) -> usize
 }
 
 // The kind of a fault of a name that is not in view.
+#[tactic(auto, unfolding(crate::specs::JudgeModel::undefined_kind))]
 fn undefined_kind(s: ScopeStack, l: Lambdas, called: bool) -> usize
     ensures { result ≡ undefined_kind s.home l.outer called }
 {
@@ -41,6 +44,7 @@ fn undefined_kind(s: ScopeStack, l: Lambdas, called: bool) -> usize
 }
 
 // Row i has a fault of this kind. A name that a lambda is blamed for counts as its parameter from there on: it is blamed once.
+#[tactic(auto, unfolding(crate::specs::JudgeModel::faulted))]
 fn fault(work: &mut [u32], l: Lambdas, name: usize, i: usize, kind: usize)
     requires { i < 4294967296 }
     ensures { work.new ≡ faulted l.outer name i kind work.old }
@@ -52,6 +56,7 @@ fn fault(work: &mut [u32], l: Lambdas, name: usize, i: usize, kind: usize)
 }
 
 // How the name of row i stands to the def that is its home; to another home it is no own name.
+#[tactic(auto, unfolding(crate::specs::JudgeModel::flag_in))]
 fn flag_in(work: &[u32], s: ScopeStack, i: usize) -> usize
     requires { i < 4294967296 }
     ensures { result ≡ flag_in s.home work.now i }
