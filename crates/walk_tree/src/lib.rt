@@ -26,7 +26,7 @@ fn next_target(work: &[u32], i: usize) -> usize
 }
 
 // A row in target position.
-#[cycle(walk_block_walk_expr_walk_exprs_walk_line_walk_stmt_walk_stmts_walk_target_walk_targets)]
+#[cycle(walks)]
 fn walk_target(text: &[u8], work: &mut [u32], left: usize, s: ScopeStack, i: usize)
     requires { i ≤ 8192 }
     ensures { work.new ≡ target_at (walk_expr left text.now false (top_of s)) (top_of s) i work.old }
@@ -57,7 +57,7 @@ fn walk_target(text: &[u8], work: &mut [u32], left: usize, s: ScopeStack, i: usi
 }
 
 // The rows in target position, from one to another.
-#[cycle(walk_block_walk_expr_walk_exprs_walk_line_walk_stmt_walk_stmts_walk_target_walk_targets)]
+#[cycle(walks)]
 fn walk_targets(
     text: &[u8],
     work: &mut [u32],
@@ -78,7 +78,7 @@ fn walk_targets(
 }
 
 // An expression.
-#[cycle(walk_block_walk_expr_walk_exprs_walk_line_walk_stmt_walk_stmts_walk_target_walk_targets)]
+#[cycle(walks)]
 fn walk_expr(
     text: &[u8],
     work: &mut [u32],
@@ -114,7 +114,7 @@ fn walk_expr(
 }
 
 // A list of expressions.
-#[cycle(walk_block_walk_expr_walk_exprs_walk_line_walk_stmt_walk_stmts_walk_target_walk_targets)]
+#[cycle(walks)]
 fn walk_exprs(
     text: &[u8],
     work: &mut [u32],
@@ -136,7 +136,7 @@ fn walk_exprs(
 }
 
 // A statement, or another line of a block that is no expression.
-#[cycle(walk_block_walk_expr_walk_exprs_walk_line_walk_stmt_walk_stmts_walk_target_walk_targets)]
+#[cycle(walks)]
 fn walk_stmt(text: &[u8], work: &mut [u32], left: usize, s: ScopeStack, i: usize) -> ScopeStack
     ensures { walk result work.new ≡ walk_stmt left text.now i (walk s work.old) }
 {
@@ -194,6 +194,7 @@ fn walk_stmt(text: &[u8], work: &mut [u32], left: usize, s: ScopeStack, i: usize
 }
 
 // Whether a line of this kind has a block: a def or a method.
+#[tactic(auto, unfolding(crate::specs::WalkModel::is_block))]
 fn is_block(kind: usize) -> bool
     ensures { result ≡ is_block kind }
 {
@@ -223,7 +224,7 @@ fn walk_head(text: &[u8], work: &mut [u32], s: ScopeStack, i: usize)
 }
 
 // The def or the method at row i, up to the row stop: its block is a scope of its own.
-#[cycle(walk_block_walk_expr_walk_exprs_walk_line_walk_stmt_walk_stmts_walk_target_walk_targets)]
+#[cycle(walks)]
 fn walk_block(
     text: &[u8],
     work: &mut [u32],
@@ -244,7 +245,7 @@ fn walk_block(
 
 // The body of a lambda, a line of either sort. A statement, which no text has there, is walked as a list of one: so `walk_stmt` has one caller,
 // and is a part of it in the machine code.
-#[cycle(walk_block_walk_expr_walk_exprs_walk_line_walk_stmt_walk_stmts_walk_target_walk_targets)]
+#[cycle(walks)]
 fn walk_line(text: &[u8], work: &mut [u32], left: usize, s: ScopeStack, l: Lambdas, i: usize)
     requires { i < 16384 }
     ensures { work.new ≡ walk_body left text.now (scope_of s l) i work.old }
@@ -257,7 +258,7 @@ fn walk_line(text: &[u8], work: &mut [u32], left: usize, s: ScopeStack, l: Lambd
 }
 
 // A list of statements, which may have expressions before them.
-#[cycle(walk_block_walk_expr_walk_exprs_walk_line_walk_stmt_walk_stmts_walk_target_walk_targets)]
+#[cycle(walks)]
 fn walk_stmts(
     text: &[u8],
     work: &mut [u32],
