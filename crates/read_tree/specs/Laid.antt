@@ -2,7 +2,6 @@
 -- number for each name. The layout is crate `work_rows`'.
 use Rattle.std.specs.Prelude.{ℕ, zero, suc, ◌<◌, true, false, List, [], ◌∷◌, map, ◌≡◌, eqb, length, get_or, take}
 use Rattle.spec_text.specs.Bytes.{Bytes, no_part}
-use Rattle.spec_text.specs.Tree.{Tree}
 use Rattle.spec_text.specs.Reading.{Reading, tree, refusal}
 use Rattle.work_rows.specs.Layout.{row_of, offset_at}
 use Rattle.read_names.specs.ChainsModel.{Names}

@@ -1,6 +1,7 @@
 // Reads a tree text into rows, or refuses it. An agenda in the work buffer says which lines are due, so nothing recurses: each turn
 // takes one line, writes its row, and puts the lines due below it on the agenda.
 #![tactic(auto)]
+
 ghost use Rattle.std.specs.Prelude.{◌≡◌, ◌+◌, ◌-◌, ◌<◌, ◌≤◌, length};
 ghost use Rattle.spec_text.specs.Reading.{reading, ended};
 ghost use Rattle.read_agenda.specs.AgendaModel.{after};
@@ -54,6 +55,7 @@ fn minus(a: usize, b: usize) -> usize
 }
 
 // Refusals 3, 5, 6 and 7, in this order, of line n, which has d levels left.
+#[tactic(auto, unfolding(crate::specs::MachineModel::refusal_of))]
 fn refusal(ended: bool, l: Line, sort: usize, n: usize, d: usize) -> usize
     ensures { result ≡ refusal_of ended l sort n d }
 {
@@ -79,6 +81,7 @@ fn refusal(ended: bool, l: Line, sort: usize, n: usize, d: usize) -> usize
 }
 
 // The line that starts at an offset, where a line of a sort is due.
+#[tactic(auto, unfolding(crate::specs::MachineModel::due_at))]
 fn line_due(text: &[u8], at: usize, sort: usize, n: usize, d: usize) -> Due
     ensures { result ≡ due_at text.now at sort n d }
 {
@@ -103,6 +106,7 @@ fn write_row(text: &[u8], work: &mut [u32], i: usize, at: usize, l: Line)
 }
 
 // What is below row i has been read: its row gets the number of rows after it.
+#[tactic(auto, unfolding(crate::specs::MachineModel::row_closed))]
 fn close(work: &mut [u32], i: usize, rows: usize)
     requires { (i < 4294967296) × (rows ≤ 4096) }
     ensures { work.new ≡ row_closed i rows work.old }
