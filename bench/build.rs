@@ -1,4 +1,4 @@
-//! Links the reader that `rt staticlib bench_reader` makes. SERDUZHAP_LIB names the folder of
+//! Links the reader that `tools/staticlib bench_reader` makes. SERDUZHAP_LIB names the folder of
 //! libbench_reader.a, if it is another than target/staticlib; a relative path starts at the root of the
 //! repository.
 

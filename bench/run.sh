@@ -12,8 +12,7 @@ if [ ${#names[@]} -eq 0 ]; then
 fi
 cd "$(dirname "$0")/.."
 if [ -z "${SERDUZHAP_LIB:-}" ]; then
-    rt staticlib serduzhap_c
-    rt staticlib bench_reader
+    tools/staticlib serduzhap_c bench_reader
 fi
 if python3 -c 'import sys; sys.exit(sys.version_info < (3, 11))' 2> /dev/null; then
     python3 bench/modules.py target/bench_modules

@@ -6,5 +6,5 @@ set -euo pipefail
 ORIGINAL_SRC=$(cd "${1:?PATH is missing: the src/ folder of the Rust original}" && pwd)
 export ORIGINAL_SRC
 cd "$(dirname "$0")/.."
-rt staticlib serduzhap_c > /dev/null
+tools/staticlib serduzhap_c > /dev/null
 exec cargo run --frozen --release --quiet --package oracle -- "${@:2}"

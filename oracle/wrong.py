@@ -327,7 +327,7 @@ def new_folder(title: str) -> Path:
 
 def main(arguments: list[str]) -> int:
     original, words = Path(arguments[0]).resolve(), ' '.join(arguments[1:])
-    subprocess.run(['rt', 'staticlib', 'serduzhap_c'], cwd=ROOT, check=True,
+    subprocess.run(['tools/staticlib', 'serduzhap_c'], cwd=ROOT, check=True,
                    stdout=subprocess.DEVNULL, stderr=subprocess.DEVNULL)
     shutil.rmtree(COPIES, ignore_errors=True)
     results = []

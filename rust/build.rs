@@ -1,4 +1,4 @@
-//! Links the library that `rt staticlib serduzhap_c` makes. SERDUZHAP_LIB names the folder of
+//! Links the library that `tools/staticlib serduzhap_c` makes. SERDUZHAP_LIB names the folder of
 //! libserduzhap_c.a, if it is another than target/staticlib; a relative path starts at the folder around this
 //! crate's, which is the root of the repository.
 

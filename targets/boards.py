@@ -18,8 +18,12 @@ PACKAGES = {
     'qemu-x86_64': 'qemu-user', 'node': 'nodejs',
 }
 
-# As the kit compiles, but for the target: what cannot be reached is a trap, each function has a section.
-AS_THE_KIT = ['-mllvm', '-trap-unreachable', '-mllvm', '-no-trap-after-noreturn', '-ffunction-sections']
+# As the kit compiles, but for the target: what cannot be reached is a trap, each function has a section, and three
+# passes are left out.
+AS_THE_KIT = ['-ffunction-sections', '-fdata-sections']
+for option in ('trap-unreachable', 'no-trap-after-noreturn', 'disable-machine-licm', 'disable-postra-machine-licm',
+               'sink-common-insts=false'):
+    AS_THE_KIT += ['-mllvm', '-' + option]
 REPLAY = ['-std=c11', '-Wall', '-Wextra', '-Wpedantic', '-Werror', '-ffreestanding', '-fno-stack-protector']
 
 # `-meabi gnu`: memcpy and memset by these names, and not __aeabi_memcpy. `-mno-relax`: jumps are in the object as they

@@ -2,11 +2,9 @@
 
 `rattle build` takes an option `--toolchain DIR` and runs DIR/bin/clang. DIR is here a folder of links to the kit's own
 toolchain, and its bin/clang keeps the module that it is given before it runs the kit's. The archive that is made beside
-it has to be bit for bit that of `rt staticlib`: it is the same code.
+it has to be bit for bit that of `tools/staticlib`: it is the same code.
 """
 
-import os
-import platform
 import re
 import shutil
 import subprocess
@@ -15,6 +13,7 @@ from pathlib import Path
 ROOT = Path(__file__).resolve().parent.parent
 MADE = ROOT / 'target' / 'targets'
 LIBRARY = 'serduzhap_c'
+CRATE = 'serduzhap_c_export'  # the crate that exports the library's calls
 HEADER = ROOT / 'include' / 'serduzhap.h'
 
 CLANG = '''#!/bin/sh
@@ -32,9 +31,9 @@ class Failed(Exception):
     """A step that did not come out as it has to."""
 
 
-def ran(command: list[str], given: bytes = b'') -> bytes:
+def ran(command: list[str], given: bytes = b'', folder: Path = ROOT) -> bytes:
     """What a command writes."""
-    done = subprocess.run(command, cwd=ROOT, input=given, capture_output=True)
+    done = subprocess.run(command, cwd=folder, input=given, capture_output=True)
     if done.returncode != 0:
         said = (done.stderr or done.stdout).decode(errors='replace').strip()[-2000:]
         raise Failed('%s: status %d\n%s' % (' '.join(command)[:400], done.returncode, said))
@@ -48,33 +47,58 @@ class Kit:
         rt = shutil.which('rt')
         if not rt:
             raise Failed('rt is not installed')
-        self.home = Path(os.environ.get('RATTLE_HOME') or Path(rt).resolve().parent.parent)
-        self.own = self.home / 'on' / platform.machine()
-        self.toolchain = self.own / 'toolchain'
+        self.home = Path(rt).resolve().parent.parent
+        self.rlibs = self.home / 'rlibs'
+        self.toolchain = self.home / 'toolchain'
         self.clang = str(self.toolchain / 'bin' / 'clang')
         self.ar = str(self.toolchain / 'bin' / 'llvm-ar')
 
     def crate_words(self) -> list[str]:
         """The words that `rt` gives for the library and what it depends on."""
-        listed = re.search(r'^%s:(.*)$' % LIBRARY, (ROOT / 'crates.txt').read_text(), re.M)
-        if not listed:
-            raise Failed('crates.txt has no ' + LIBRARY)
-        words = ['--crate-name', LIBRARY, str(ROOT / 'crates' / LIBRARY / 'src' / 'lib.rt')]
-        words += ['--extern', 'std=%s' % (self.own / 'rlib' / 'std.rlib')]
-        for name in listed[1].split():
-            mine = (ROOT / 'crates' / name / 'src').is_dir()
-            folder = ROOT / 'target' / 'rlib' if mine else self.own / 'rlib'
-            words += ['--extern', '%s=%s' % (name, folder / (name + '.rlib'))]
-        for folder in (ROOT / 'target' / 'rlib', self.own / 'rlib'):
-            words += ['-L', 'dependency=%s' % folder]
+        listed = needs()
+        if CRATE not in listed:
+            raise Failed('crates.txt has no ' + CRATE)
+        words = ['--crate-name', CRATE, 'src/lib.rt']
+        words += ['--extern', 'std=%s' % (self.rlibs / 'std.rlib'), '-L', 'dependency=%s' % self.rlibs]
+        for name in listed[CRATE]:
+            words += ['--extern', '%s=%s' % (name, rlib(name))]
+        below = all_below(CRATE, listed)
+        for name in below:
+            words += ['-L', 'dependency=%s' % rlib(name).parent]
+        for name in [CRATE] + below:
+            words += ['--links', name + '=']
         return words
 
     def build(self, toolchain: Path, archive: Path) -> None:
-        """What `rt staticlib` does once all that the library depends on is proved."""
-        ran([str(self.own / 'bin' / 'rattle'), 'build'] + self.crate_words()
-            + ['--antt-project', str(self.home / 'logic' / 'antt-project.json')]
-            + ['--logic-built', str(self.own / 'logic-built')]
-            + ['--toolchain', str(toolchain), '--crate-type', 'staticlib', '-o', str(archive)])
+        """What `rt lib` does once all that the library depends on is proved."""
+        ran([str(self.home / 'bin' / 'rattle'), 'build'] + self.crate_words()
+            + ['--antt-project', str(self.home / 'rattle' / 'logic' / 'antt-project.json')]
+            + ['--logic-built', str(self.home / 'logic_built'), '--incremental', 'out/incremental']
+            + ['--crate-type', 'staticlib', '--backend', 'llvm']
+            + ['--toolchain', str(toolchain), '-o', str(archive)], folder=ROOT / 'crates' / CRATE)
+
+
+def needs() -> dict[str, list[str]]:
+    """The crates of the repository, each with those that it cites."""
+    lines = re.findall(r'^(\w+)[^:#\n]*:([^#\n]*)', (ROOT / 'crates.txt').read_text(), re.M)
+    return {name: cited.split() for name, cited in lines}
+
+
+def all_below(crate: str, listed: dict[str, list[str]]) -> list[str]:
+    """The crates that a crate depends on, each once."""
+    found: list[str] = []
+    left = [*listed[crate]]
+    while left:
+        name = left.pop()
+        if name not in found:
+            found.append(name)
+            left += listed[name]
+    return found
+
+
+def rlib(name: str) -> Path:
+    """A crate of the repository as `rt` has built it for those above it."""
+    return ROOT / 'crates' / name / 'out' / 'rlib' / (name + '.rlib')
 
 
 def keeping_toolchain(kit: Kit, module: Path) -> Path:
@@ -96,7 +120,7 @@ def keeping_toolchain(kit: Kit, module: Path) -> Path:
 
 def archive_of_rt() -> Path:
     """The library for x86-64, as a maker gets it."""
-    ran(['rt', 'staticlib', LIBRARY])
+    ran(['tools/staticlib', LIBRARY])
     return ROOT / 'target' / 'staticlib' / ('lib%s.a' % LIBRARY)
 
 
@@ -108,7 +132,7 @@ def module_of(kit: Kit, archive: Path) -> str:
     if not module.exists():
         raise Failed('the kit gave its compiler no module')
     if beside.read_bytes() != archive.read_bytes():
-        raise Failed('the archive that is made beside the module is not that of rt staticlib')
+        raise Failed('the archive that is made beside the module is not that of tools/staticlib')
     return ran([kit.clang, '-x', 'ir', str(module), '-S', '-emit-llvm', '-o', '-']).decode()
 
 
@@ -173,4 +197,4 @@ def complaints(module: str) -> list[str]:
 def portable(module: str) -> str:
     """The module without the words that are of x86-64."""
     module = re.sub(r'^target (datalayout|triple) = .*\n', '', module, flags=re.M)
-    return re.sub(r' "(probe-stack|target-cpu)"="[^"]*"', '', module)
+    return re.sub(r' "(probe-stack|stack-probe-size|target-cpu)"="[^"]*"', '', module)

@@ -205,7 +205,7 @@ def run(wanted: list[str], show_frames: bool) -> tuple[list[Found], Frames]:
     ir.MADE.mkdir(parents=True, exist_ok=True)
     kit, archive = ir.Kit(), ir.archive_of_rt()
     module = module_in(kit, archive)
-    say('the module is had; the archive made beside it is that of rt staticlib, bit for bit')
+    say('the module is had; the archive made beside it is that of tools/staticlib, bit for bit')
     frames = frames_of(archive)
     all_found = []
     for board in [NATIVE] + chosen:

@@ -1,6 +1,7 @@
-// The calls for C and Rust, on every target: a slice is a pointer and a count, an answer a row of 32-bit numbers that the caller lends:
-// a number, then what goes with it, then 0. Nothing is returned. include/serduzhap.h is the header.
+// The calls for C and Rust, on every target: an answer is a row of 32-bit numbers that the caller lends: a number, then what goes with it,
+// then 0. Nothing is returned. serduzhap_c_export exports them.
 #![tactic(auto)]
+
 ghost use Rattle.std.specs.Prelude.{◌≡◌, [], ◌∷◌, length};
 ghost use Rattle.spec_answers.specs.Answers.{check, over, report, message, name};
 ghost use Rattle.report_records.specs.RecordsModel.{cut32};
@@ -84,8 +85,7 @@ fn put_seven(
 }
 
 // Accepted, or the first fault.
-#[unsafe(no_mangle)]
-pub extern "C" fn serduzhap_check(text: &[u8], work: &mut [u32], answer: &mut [u32; CHECK_ANSWER])
+pub fn serduzhap_check(text: &[u8], work: &mut [u32], answer: &mut [u32; CHECK_ANSWER])
     ensures { answer.new ≡ answer_of 7 (check text.now (length work.old)) }
 {
     match serduzhap::check(text, work) {
@@ -105,8 +105,7 @@ pub extern "C" fn serduzhap_check(text: &[u8], work: &mut [u32], answer: &mut [u
 }
 
 // Writes all faults to the output as records of seven numbers.
-#[unsafe(no_mangle)]
-pub extern "C" fn serduzhap_report(
+pub fn serduzhap_report(
     text: &[u8],
     work: &mut [u32],
     out: &mut [u32],
@@ -122,8 +121,7 @@ pub extern "C" fn serduzhap_report(
 }
 
 // Writes the message of fault i to the output.
-#[unsafe(no_mangle)]
-pub extern "C" fn serduzhap_message(
+pub fn serduzhap_message(
     text: &[u8],
     work: &mut [u32],
     i: usize,
@@ -142,13 +140,7 @@ pub extern "C" fn serduzhap_message(
 }
 
 // Where the name of fault i stands in the text.
-#[unsafe(no_mangle)]
-pub extern "C" fn serduzhap_name(
-    text: &[u8],
-    work: &mut [u32],
-    i: usize,
-    answer: &mut [u32; NAME_ANSWER],
-)
+pub fn serduzhap_name(text: &[u8], work: &mut [u32], i: usize, answer: &mut [u32; NAME_ANSWER])
     ensures { answer.new ≡ part_answer (name text.now (length work.old) i) }
 {
     let part = serduzhap::name_part(text, work, i);
@@ -156,8 +148,7 @@ pub extern "C" fn serduzhap_name(
 }
 
 // The version of this library.
-#[unsafe(no_mangle)]
-pub extern "C" fn serduzhap_version(answer: &mut [u32; VERSION_ANSWER])
+pub fn serduzhap_version(answer: &mut [u32; VERSION_ANSWER])
     ensures { answer.new ≡ version }
 {
     put_three(answer, MAJOR, MINOR, PATCH);
