@@ -9,7 +9,7 @@ use mathlib.Core.List.{List, [], ◌∷◌, ◌++◌, map}
 use lib.Dec.{ltb}
 use lib.ListN.{length, length-append}
 use Rattle.spec_text.specs.Bytes.{Bytes}
-use Rattle.spec_text.specs.Tree.{Expr, Exprs, Attrs, Stmt, Stmts, Methods, Tree, block, for}
+use Rattle.spec_text.specs.Tree.{snil, Expr, Exprs, Attrs, Stmt, Stmts, Methods, Tree, block, for}
 use Rattle.spec_text.specs.Lines.{StmtForm, ExprForm, Form, Parsed, count_at, as_stmt, as_expr, as_sort}
 use Rattle.spec_text.specs.Reading.{longest_text, shortest_work, deepest, Rest, Read, got, and_then, Due, exprs, attrs, stmts, methods, expr_children, expr, stmt_children, stmt, elif, methods_at, attrs_at, globals, Reading, tree, refusal, ended, read_tree, reading}
 use Rattle.work_rows.specs.Rows.{Row, row, rows_e, rows_es, rows_as, rows_s, rows_ss, rows_ms, global_row, rows_t}
@@ -165,7 +165,7 @@ module _ (text : Bytes) where
         under h (few (one-after (sized_e c) (sized_ss b))) x))
 
     methods_at_give : (d k : ℕ) → Reads OfMs (methods_at d k)
-    methods_at_give zero k r g = methods_give (λ r g. too_deep_lem (as_sort Form.method) r) (λ k r g. gives (nothing g)) k r g
+    methods_at_give zero k r g = methods_give (λ r g. too_deep_lem (as_sort Form.method) r) (λ k r g. gives {a = snil} (nothing g)) k r g
     methods_at_give (suc d) k r g = methods_give (line_gives text 3 method_sorts) (stmts_give (λ r g. stmt_gives d r g)) k r g
 
     attrs_at_give : (d k : ℕ) → Reads OfAs (attrs_at d k)

@@ -1,5 +1,6 @@
 // Reads the line of a row again: its span and its name, and its parameters one after the other.
 #![tactic(auto)]
+
 ghost use Rattle.std.specs.Prelude.{◌≡◌, true, ◌<◌, ◌≤◌, length};
 ghost use Rattle.read_row.specs.RowModel.{parts_from, params_of, line_start, line_of_row};
 
@@ -48,6 +49,7 @@ fn line_start(text: &[u8], at: usize) -> usize
 }
 
 // The line of row i.
+#[tactic(auto, unfolding(crate::specs::RowModel::line_of_row))]
 pub fn line_of_row(text: &[u8], work: &[u32], i: usize) -> Line
     requires { i < 4294967296 }
     ensures { result ≡ line_of_row text.now work.now i }

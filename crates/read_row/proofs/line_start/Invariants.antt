@@ -1,0 +1,10 @@
+-- `line_start` goes back to the byte after the last LF. The loop's invariant: from here it is found where it is found from the start.
+use Rattle.std.proofs.Common.{◌≡◌}
+use Rattle.read_row.specs.RowModel.{line_start}
+use Rattle.read_row.proofs.line_start.Given as goal
+
+abbrev pub invariant-loop-start : goal.invariant-loop-start
+invariant-loop-start l = line_start l.text l.at ≡ line_start l.text l.start
+
+abbrev pub decreases-loop-start : goal.decreases-loop-start
+decreases-loop-start l = l.start
