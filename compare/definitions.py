@@ -6,7 +6,7 @@ Of each text: the reading or its refusal, the full report, places and reads, mes
 walk's answer, the walk that lists everything; the answers of check, report, message and name,
 also where the output is too short; and what `namecheck` prints.  Tables of texts with the answers
 that document01/ expects are written into a copy of the crates, and each is proved by refl with
-`rt dev spec_answers` there.
+`rt check` in the topmost, spec_answers.
 """
 
 import argparse
@@ -46,10 +46,13 @@ class Crates:
 
     def __init__(self, folder: Path) -> None:
         self.folder = folder
+        lines = [line for line in (ROOT / 'crates.txt').read_text().splitlines(keepends=True)
+                 if line.startswith('spec_')]
         for crate in ('spec_text', 'spec_faults', 'spec_answers'):
             shutil.copytree(ROOT / 'crates' / crate, folder / 'crates' / crate)
-        shutil.copy(ROOT / 'crates.txt', folder)
-        self.proofs = folder / 'crates/spec_answers/proofs'
+        (folder / 'crates.txt').write_text(''.join(lines))
+        self.topmost = folder / 'crates/spec_answers'
+        self.proofs = self.topmost / 'proofs'
         shutil.rmtree(self.proofs)
         self.proofs.mkdir()
         (self.proofs / 'Lib.antt').write_text('pub mod Compare\n', 'utf-8')
@@ -58,10 +61,9 @@ class Crates:
         """Whether all declarations of the module are proved."""
         (self.proofs / 'Compare.antt').write_text(source, 'utf-8')
         start = time.time()
-        done = subprocess.run(['rt', 'dev', 'spec_answers'], cwd=self.folder, capture_output=True,
-                              text=True)
+        done = subprocess.run(['rt', 'check'], cwd=self.topmost, capture_output=True, text=True)
         output = done.stdout + done.stderr
-        holds = any(line.startswith('logic=proved') for line in output.splitlines()[-1:])
+        holds = done.returncode == 0 and 'logic=proved ' in output
         checked = re.search(r'crate spec_answers: modules loaded=\d+ checked=[1-9]', output)
         if holds and not checked:
             raise SystemExit('nothing was checked: ' + output)

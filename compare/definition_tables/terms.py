@@ -13,19 +13,17 @@ from document01.rust_walk import rust_walk
 WORK = 16384
 
 HEAD = '''-- Scratch: the definitions against the independent reading in Python.
-use Prim.Native.Nat.{ℕ}
+use Rattle.std.specs.Prelude.{ℕ, ◌≡◌, List, [], ◌∷◌, map}
+use Rattle.std.proofs.Common.{refl}
 use Prim.Native.String.{String}
-use mathlib.Core.Path.{_≡_, refl}
-use mathlib.Core.List.{List, [], _∷_, _++_, map}
-use mathlib.Core.Option.{Option, none, some}
-use Rattle·spec_text.specs.Bytes.{Bytes, Part, bytes}
-use Rattle·spec_text.specs.Tree.{Tree}
-use Rattle·spec_text.specs.Reading.{Reading, tree, refusal, reading}
-use Rattle·spec_faults.specs.Faults.{Fault, faults, fullReport, records, messageOf}
-use Rattle·spec_faults.specs.Rust.{SemanticError, Checked, as-read, analyze-with-globals}
-use Rattle·spec_faults.proofs.ListingWalk.{walk}
-use Rattle·spec_answers·specs.specs.Answers.{Answer, accepted, written, faulty, refused, Outcome, refusing, check, report, message, name}
-use Rattle·spec_answers·specs.specs.Printed.{printed}
+use Rattle.std.proofs.Math.Option.{none, some}
+use Rattle.spec_text.specs.Bytes.{Bytes, Part, bytes}
+use Rattle.spec_text.specs.Reading.{Reading, tree, refusal, reading}
+use Rattle.spec_faults.specs.Faults.{Fault, faults, full_report, records, message_of}
+use Rattle.spec_faults.specs.Rust.{Checked, as_read, analyze_with_globals}
+use Rattle.spec_faults.proofs.ListingWalk.{walk}
+use Rattle.spec_answers.specs.Answers.{Answer, accepted, written, faulty, refused, Outcome, refusing, check, report, message, name}
+use Rattle.spec_answers.specs.Printed.{printed}
 
 pub data Read : Type 0 where
   judged : List ℕ → List ℕ → List Bytes → Checked → List ℕ → List ℕ → Read
@@ -33,11 +31,12 @@ pub data Read : Type 0 where
 
 abbrev places : List Fault → List ℕ
 places [] = []
-places (f ∷ fs) = f .place ∷ f .line ∷ places fs
+places (f ∷ fs) = f.place ∷ f.line ∷ places fs
 
-abbrev readOf : Reading → Read
-readOf (tree t) = judged (fullReport t) (places (faults t)) (map (λ (f : Fault). messageOf f) (faults t)) (analyze-with-globals as-read t) (records (walk t)) (places (walk t))
-readOf (refusal k n) = unread k n
+abbrev read_of : Reading → Read
+read_of (tree t) =
+    judged (full_report t) (places (faults t)) (map (λ (f : Fault). message_of f) (faults t)) (analyze_with_globals as_read t) (records (walk t)) (places (walk t))
+read_of (refusal k n) = unread k n
 
 -- the calls: check; report to an output of o numbers; message i to m bytes; name i; what is printed
 pub record Calls : Type 0 where
@@ -49,7 +48,8 @@ pub record Calls : Type 0 where
   pub prints : Bytes
 
 abbrev calls : Bytes → ℕ → ℕ → ℕ → Calls
-calls s o i m = record { reads = readOf (reading s 16384); checks = check s 16384; reports = report s 16384 o; says = message s 16384 i m; names = name s 16384 i; prints = printed s }
+calls s o i m =
+    record { reads = read_of (reading s 16384); checks = check s 16384; reports = report s 16384 o; says = message s 16384 i m; names = name s 16384 i; prints = printed s }
 
 abbrev rust : ℕ → ℕ → ℕ → String → Checked
 rust k s e m = some (record { kind = k; message = bytes m; start = s; end = e })
@@ -77,10 +77,10 @@ abbrev row : Bytes → ℕ → ℕ → ℕ → Calls → Row
 row s o i m c = record { text = s; out = o; i = i; room = m; is = c }
 
 abbrev get : List Row → List Calls
-get rs = map (λ (r : Row). calls (r .text) (r .out) (r .i) (r .room)) rs
+get rs = map (λ (r : Row). calls r.text r.out r.i r.room) rs
 
 abbrev want : List Row → List Calls
-want rs = map (λ (r : Row). r .is) rs
+want rs = map (λ (r : Row). r.is) rs
 
 '''
 
