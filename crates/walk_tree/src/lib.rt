@@ -4,6 +4,7 @@
 // `left` is the number of rows at the start, and one less at each level. The lines around a line are other rows, one a level: so a line
 // of a tree that was read is never met with none left. The test for 0 is there so that the walk ends on any numbers.
 #![tactic(auto)]
+
 ghost use Rattle.std.specs.Prelude.{◌≡◌, false, ◌<◌, ◌≤◌, length};
 ghost use Rattle.work_rows.specs.LoopsModel.{rows_to};
 ghost use Rattle.walk_scopes.specs.ScopesModel.{scope_of, top_of};
