@@ -1,5 +1,6 @@
 // The lines that `namecheck` prints, pushed to a buffer one after the other, as much as there is room for.
 #![tactic(auto)]
+
 ghost use Rattle.std.specs.Prelude.{◌≡◌, [], ◌∷◌, ◌<◌, ◌≤◌, length, get_or};
 ghost use Rattle.spec_answers.specs.Printed.{refused_line};
 ghost use Rattle.spec_text.specs.Writing.{decimal_of, line_with};
