@@ -1,5 +1,6 @@
 // Messages in the Rust's words: the words of a kind, from one table, round the names.
 #![tactic(auto)]
+
 ghost use Rattle.std.specs.Prelude.{◌≡◌, ◌++◌, ◌+◌, ◌*◌, ◌<◌, ◌≤◌, length};
 ghost use Rattle.write_bytes.specs.PushModel.{Pushes};
 ghost use Rattle.report_messages.specs.MessagesModel.{record_message};
