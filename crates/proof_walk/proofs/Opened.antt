@@ -29,7 +29,7 @@ use Rattle.walk_blocks.specs.BlocksModel.{entered_one, entered, opened}
 use Rattle.proof_walk.specs.Table.{ParamWord, def, method, Table, Here}
 use Rattle.proof_walk.specs.Notes.{Note, note, notes_ss, notes_d, ToldSs}
 use Rattle.proof_walk.proofs.State.{Raised}
-use Rattle.proof_walk.proofs.PartRows.{here_tail, row_few, row_params, table_kept}
+use Rattle.proof_walk.proofs.PartRows.{here_tail, row_params, table_kept}
 use Rattle.proof_walk.proofs.Noted.{Restamped, Later, restamped_noted, restamped_forgot, restamped_all, do_all, do_all-two, noted_all, low_again}
 use Rattle.proof_walk.proofs.Gathered.{gathered}
 use Rattle.proof_walk.proofs.Assigned.{later_d}

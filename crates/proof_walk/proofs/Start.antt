@@ -19,7 +19,7 @@ use Rattle.spec_faults.specs.Builtins.{builtin_names}
 use Rattle.spec_faults.proofs.ListingWalk.{after_ss, module_env, start_state}
 use Rattle.spec_faults.proofs.Lists.{mem_append}
 use Rattle.spec_faults.proofs.TextWalk.{raw_ss}
-use Rattle.work_rows.specs.Layout.{put, rows_most, number_at, after_row}
+use Rattle.work_rows.specs.Layout.{put, rows_most, number_at}
 use Rattle.read_names.specs.ChainsModel.{lookup}
 use Rattle.work_rows.specs.Rows.{Row, global_row, rows_ss, rows_t}
 use Rattle.work_rows.proofs.Lengths.{rows_length}
@@ -37,7 +37,7 @@ use Rattle.proof_walk.specs.Table.{Table, Here}
 use Rattle.proof_walk.specs.Notes.{no_own_names}
 use Rattle.proof_walk.proofs.State.{home_number, Open, At}
 use Rattle.proof_walk.proofs.PartRows.{here_tail, here_past, row_number, table_kept}
-use Rattle.proof_walk.proofs.Done.{Done, done_then, done_skip, done_bind, looped_end}
+use Rattle.proof_walk.proofs.Done.{Done, done_then, done_skip, done_bind}
 use Rattle.proof_walk.proofs.Nested.{Block}
 use Rattle.proof_walk.proofs.ByKind.{kids_end}
 use Rattle.proof_walk.proofs.Stmts.{stmts}

@@ -10,8 +10,8 @@ use Rattle.spec_text.specs.Bytes.{Bytes, Part}
 use Rattle.spec_text.specs.Tree.{Line, Expr, Exprs, Attrs, Stmt, Stmts, Methods, enil, econs, anil, acons, simple, assign, block, choice, for, def, class, snil, scons, mnil, mcons, len_e, len_es, len_as, len_s, len_ss, len_ms}
 use Rattle.spec_faults.specs.Position.{Home, in_module, in_def, in_method, value}
 use Rattle.spec_faults.specs.Faults.{Fault, unless, lacks_self, selfless}
-use Rattle.spec_faults.proofs.ListingWalk.{State, Env, assigning, naming, entered, after_t, after_s, after_ss, def_env, method_env, in_classes, self_fault}
-use Rattle.spec_faults.proofs.TextWalk.{raw_e, raw_es, raw_t, raw_s, raw_ss, raw_ms}
+use Rattle.spec_faults.proofs.ListingWalk.{State, Env, naming, entered, after_s, after_ss, def_env, method_env, in_classes, self_fault}
+use Rattle.spec_faults.proofs.TextWalk.{raw_e, raw_es, raw_s, raw_ss, raw_ms}
 use Rattle.spec_faults.proofs.Deduped.{seen_after}
 use Rattle.work_rows.specs.Layout.{kind_at, after_row}
 use Rattle.work_rows.specs.Rows.{Row, row, rows_e, rows_es, rows_as, rows_s, rows_ss, rows_ms}
