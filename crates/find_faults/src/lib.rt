@@ -1,5 +1,6 @@
 // Finds the faults of a text: reads its tree, walks it, and lists the faults in the work buffer.
 #![tactic(auto)]
+
 ghost use Rattle.std.specs.Prelude.{◌≡◌, ◌<◌, length};
 ghost use Rattle.spec_text.specs.Reading.{reading};
 ghost use Rattle.report_order.specs.OrderModel.{entry_at};
