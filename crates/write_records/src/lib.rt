@@ -1,5 +1,6 @@
 // Writes what was found to an output: the records of the faults, one after the other.
 #![tactic(auto)]
+
 ghost use Rattle.std.specs.Prelude.{◌≡◌, ◌<◌, ◌≤◌, ◌*◌, length};
 ghost use Rattle.spec_answers.specs.Answers.{over};
 ghost use Rattle.write_records.specs.WriteModel.{records_of};
