@@ -1,5 +1,6 @@
 // The public calls: check, report, message and name, each over a tree text and a work buffer. They read the tree, walk it, and list its faults.
 #![tactic(auto)]
+
 ghost use Rattle.std.specs.Prelude.{◌≡◌, ◌<◌, ◌*◌, length};
 ghost use Rattle.spec_answers.specs.Answers.{wrote_if, name};
 ghost use Rattle.report_messages.specs.MessagesModel.{record_message};
