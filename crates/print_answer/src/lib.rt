@@ -1,5 +1,6 @@
 // What `namecheck` prints, as bytes in a buffer: the only thing left to the program is to read and to write.
 #![tactic(auto)]
+
 ghost use Rattle.spec_answers.specs.Printed.{Prints};
 
 use serduzhap::ReportResult;

@@ -1,9 +1,9 @@
 // Bytes of the text: the classes of a byte, the byte at an offset, a part of the text.
 #![tactic(auto)]
+
 ghost use Rattle.std.specs.Prelude.{◌≡◌, ◌<◌, get_or};
 ghost use Rattle.spec_text.specs.Bytes.{is_digit, is_name_byte, part_of};
 ghost use Rattle.read_bytes.specs.BytesModel.{is_end};
-
 
 // What ends a field that is not the last of its line, and what ends a line.
 pub const TAB: u8 = 9;
