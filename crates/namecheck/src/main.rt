@@ -1,11 +1,13 @@
 // Checks the tree text on standard input and prints its faults: reads, and writes what the library printed.
 #![tactic(auto)]
 
-ghost use Rattle.std.specs.Prelude.{◌≤◌, IfOk, length};
+ghost use Rattle.std.specs.Prelude.{◌≡◌, ◌≤◌, ◌<◌, IfOk, OnOk, IfSome, length, take};
+ghost use Rattle.std.specs.Io.KnownBytes.{Appends, Consumes, IsAtEnd};
+ghost use Rattle.spec_answers.specs.Printed.{printed};
 
 use print_answer::{REPORT, WORK};
 use std::io;
-use std::io::Read;
+use std::io::{Read, Write};
 
 // One byte more than the longest text tells that a text is too long.
 const TEXT: usize = 65537;
@@ -14,27 +16,49 @@ const TEXT: usize = 65537;
 const OUT: usize = 524288;
 
 // Reads until a buffer is full or the input ends, and answers how many bytes it put at the start of the buffer.
-fn read_full(rt: &impl Input, to: &mut [u8]) -> io::Result<usize>
-    ensures { IfOk result (λ n. n ≤ length to.new) }
+fn read_full<R: Read>(from: &mut R, to: &mut [u8]) -> io::Result<usize>
+    ensures fits { IfOk result (λ n. n ≤ length to.new) }
+    ensures bytes { IfOk result (λ n. Consumes (R.remaining from.old) (R.remaining from.new) (take n to.new)) }
+    ensures end { IfOk result (λ n. n < length to.new → IsAtEnd (R.remaining from.new)) }
 {
-    let mut input = rt.reader();
     let mut done = 0;
     while done < to.len() {
-        let n = input.read(&mut to[done..])?;
+        let n = from.read(&mut to[done..])?;
         if n == 0 {
-            break;
+            return Ok(done);
         }
         done += n;
     }
     Ok(done)
 }
 
-fn main(rt: HostRuntime) -> io::Result<()> {
+// Reads a text to its end and prints what `printed` says of it, all of that, with these buffers.
+fn answer<R: Read, W: Write>(
+    from: &mut R,
+    to: &mut W,
+    text: &mut [u8; TEXT],
+    work: &mut [u32; WORK],
+    report: &mut [u32; REPORT],
+    out: &mut [u8; OUT],
+) -> io::Result<()>
+    ensures { OnOk result (IfSome (R.remaining from.old) (λ bytes. Appends (W.contents to.old) (W.contents to.new) (printed bytes))) }
+{
+    let n = read_full(from, text)?;
+    let len = print_answer::print(&text[..n], work, report, out);
+    to.write_all(&out[..len])
+}
+
+// The same with buffers of its own.
+fn run<R: Read, W: Write>(from: &mut R, to: &mut W) -> io::Result<()>
+    ensures { OnOk result (IfSome (R.remaining from.old) (λ bytes. Appends (W.contents to.old) (W.contents to.new) (printed bytes))) }
+{
     let mut text = [0u8; TEXT];
     let mut work = [0u32; WORK];
     let mut report = [0u32; REPORT];
     let mut out = [0u8; OUT];
-    let n = read_full(&rt, &mut text)?;
-    let len = print_answer::print(&text[0..n], &mut work, &mut report, &mut out);
-    rt.write_all(&out[0..len])
+    answer(from, to, &mut text, &mut work, &mut report, &mut out)
+}
+
+fn main(rt: HostRuntime) -> io::Result<()> {
+    run(&mut rt.reader(), &mut io::writer(&rt))
 }
