@@ -140,8 +140,13 @@ def module_of(kit: Kit, archive: Path) -> str:
 
 # Instructions that mean the same on every target. Memory is addressed by bytes: `getelementptr i8`.
 MEANT = set('alloca load store getelementptr call br switch ret unreachable icmp add sub mul udiv urem shl lshr and or '
-            'xor zext trunc select phi'.split())
+            'xor zext trunc select phi extractvalue insertvalue'.split())
 MEMORY = re.compile(r'llvm\.(memmove|memcpy|memset)\.[\w.]+')
+# What a function answers: a number, a pointer, or two of these. Two are loaded one by one: see `portable`.
+ANSWER = r'(?:\w+|\{ (?:ptr|i64), i64 \})'
+PAIR = re.compile(r'^  (%\S+) = load (\{ (ptr|i64), i64 \}), ptr (%\S+), align 8$', re.M)
+# The words of the tree text, as bytes that nobody writes.
+BYTES = re.compile(r'^(@[\w.]+) = private unnamed_addr constant \[\d+ x i8\] c".*", align 1\n', re.M)
 TYPES = {'void', 'i1', 'i8', 'i16', 'i32', 'i64', 'ptr'}
 
 
@@ -167,9 +172,9 @@ def exported_types(module: str) -> dict[str, list[str]]:
 def uncalled(module: str) -> list[str]:
     """Functions that are used otherwise than to be called."""
     names = r'(@"[^"]*"|@[\w.]+)'
-    rest = re.sub(r'^(define|declare) [^@\n]*%s' % names, '', module, flags=re.M)
-    rest = re.sub(r'\bcall (\w+) %s\(' % names, '(', rest)
-    return sorted(set(re.findall(names, rest)))
+    rest = re.sub(r'^(define|declare) [^@\n]*%s' % names, '', BYTES.sub('', module), flags=re.M)
+    rest = re.sub(r'\bcall %s %s\(' % (ANSWER, names), '(', rest)
+    return sorted(set(re.findall(names, rest)) - set(BYTES.findall(module)))
 
 
 def complaints(module: str) -> list[str]:
@@ -187,6 +192,8 @@ def complaints(module: str) -> list[str]:
     found += ['uses %s but to call it' % one for one in uncalled(module)]
     declared = re.findall(r'^declare .*?@"?([^"(]*)"?\(', module, re.M)
     found += ['calls %s' % one for one in declared if not MEMORY.fullmatch(one)]
+    whole = set(re.findall(r'\b(?:load|store) [^%,\n]*[{\[<]', PAIR.sub('', module)))
+    found += ['%s, of more than one number' % one for one in sorted(whole)]
     ways = set(re.findall(r'\b(sret|byval|byref|inalloca|addrspace)\b', module))
     found += ['passes by %s' % one for one in sorted(ways)]
     if exported_types(module) != header_types():
@@ -195,6 +202,11 @@ def complaints(module: str) -> list[str]:
 
 
 def portable(module: str) -> str:
-    """The module without the words that are of x86-64."""
+    """The module without the words that are of x86-64; of a pair the second part stands at byte 8, on every target."""
     module = re.sub(r'^target (datalayout|triple) = .*\n', '', module, flags=re.M)
-    return re.sub(r' "(probe-stack|stack-probe-size|target-cpu)"="[^"]*"', '', module)
+    module = re.sub(r' "(probe-stack|stack-probe-size|target-cpu)"="[^"]*"', '', module)
+    return PAIR.sub(r"""  \1.0 = load \3, ptr \4, align 8
+  \1.at = getelementptr i8, ptr \4, i64 8
+  \1.1 = load i64, ptr \1.at, align 8
+  \1.half = insertvalue \2 poison, \3 \1.0, 0
+  \1 = insertvalue \2 \1.half, i64 \1.1, 1""", module)

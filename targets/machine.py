@@ -161,6 +161,18 @@ class Follow:
 # ---- WebAssembly
 
 POINTER = '__stack_pointer'
+TAKEN = re.compile(r'global.get %s \| i32.const (\d+) \| i32.sub  \| local.tee (\d+)' % POINTER)
+
+
+def left_below(listing: Listing, code: list[str]) -> int:
+    """How deep a function goes that leaves the global as it is: one that calls nothing may keep bytes below it."""
+    gets = [index for index, one in enumerate(code) if one == 'global.get ' + POINTER]
+    if not gets:
+        return 0
+    taken = TAKEN.fullmatch(' | '.join(code[gets[0]:gets[0] + 4]))
+    if len(gets) != 1 or not taken or any('call' in one for one in code):
+        raise Unknown('%s: what it does below %s' % (listing.name, POINTER))
+    return int(taken[1])
 
 
 def in_memory(listing: Listing) -> Function:
@@ -171,13 +183,15 @@ def in_memory(listing: Listing) -> Function:
     local = ''
     for index in sets:
         before = ' | '.join(code[max(index - 4, 0):index])
-        taken = re.fullmatch(r'global.get %s \| i32.const (\d+) \| i32.sub  \| local.tee (\d+)' % POINTER, before)
+        taken = TAKEN.fullmatch(before)
         if taken and not local and index < 5:
             function.deepest, local = int(taken[1]), taken[2]
         elif not local or not before.endswith('local.get %s | i32.const %d | i32.add ' % (local, function.deepest)):
             raise Unknown('%s: %s' % (listing.name, before))
     if sum(one in ('local.tee ' + local, 'local.set ' + local) for one in code) != (1 if local else 0):
         raise Unknown('%s: where its frame is changes' % listing.name)
+    if not sets:
+        function.deepest = left_below(listing, code)
     for one in code:
         name, _, operand = one.partition(' ')
         if name == 'call':
