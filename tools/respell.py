@@ -1,5 +1,5 @@
 #!/usr/bin/env python3
-"""Respells the definitions and lemmas of this repository as today's Rattle spells them, after /opt/rattle/port/port.py has turned the rest.
+"""Respells the definitions and lemmas of this repository as today's Rattle spells them, after the kit's port.py has turned the rest.
 
 usage: python3 tools/respell.py [--check]      at the top of the repository; --check only says what would become what
 
