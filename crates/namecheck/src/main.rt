@@ -1,8 +1,8 @@
 // Checks the tree text on standard input and prints its faults: reads, and writes what the library printed.
 #![tactic(auto)]
 
-ghost use Rattle.std.specs.Prelude.{◌≡◌, ◌≤◌, ◌<◌, IfOk, OnOk, IfSome, length, take};
-ghost use Rattle.std.specs.Io.KnownBytes.{Appends, Consumes, IsAtEnd};
+ghost use Rattle.std.specs.Prelude.{OnOk, IfSome};
+ghost use Rattle.std.specs.Io.KnownBytes.{Appends};
 ghost use Rattle.spec_answers.specs.Printed.{printed};
 
 use print_answer::{REPORT, WORK};
@@ -15,23 +15,6 @@ const TEXT: usize = 65537;
 // Room for what is printed.
 const OUT: usize = 524288;
 
-// Reads until a buffer is full or the input ends, and answers how many bytes it put at the start of the buffer.
-fn read_full<R: Read>(from: &mut R, to: &mut [u8]) -> io::Result<usize>
-    ensures fits { IfOk result (λ n. n ≤ length to.new) }
-    ensures bytes { IfOk result (λ n. Consumes (R.remaining from.old) (R.remaining from.new) (take n to.new)) }
-    ensures end { IfOk result (λ n. n < length to.new → IsAtEnd (R.remaining from.new)) }
-{
-    let mut done = 0;
-    while done < to.len() {
-        let n = from.read(&mut to[done..])?;
-        if n == 0 {
-            return Ok(done);
-        }
-        done += n;
-    }
-    Ok(done)
-}
-
 // Reads a text to its end and prints what `printed` says of it, all of that, with these buffers.
 fn answer<R: Read, W: Write>(
     from: &mut R,
@@ -43,7 +26,7 @@ fn answer<R: Read, W: Write>(
 ) -> io::Result<()>
     ensures { OnOk result (IfSome (R.remaining from.old) (λ bytes. Appends (W.contents to.old) (W.contents to.new) (printed bytes))) }
 {
-    let n = read_full(from, text)?;
+    let n = program_input::read_full(from, text)?;
     let len = print_answer::print(&text[..n], work, report, out);
     to.write_all(&out[..len])
 }

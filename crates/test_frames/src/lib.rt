@@ -1,10 +1,9 @@
 // What the replay programs share: frames of numbers and bytes from standard input, buffers filled and copied, sums, and lines written.
 #![tactic(auto)]
 
-ghost use Rattle.std.specs.Prelude.{◌≤◌, ◌<◌, IfOk, length};
+ghost use Rattle.std.specs.Prelude.{◌≤◌, ◌<◌, length};
 
 use std::io;
-use std::io::Read;
 
 // The letters of the frames that make a text: t, these bytes; r, copies of these bytes more.
 pub const TEXT: usize = 116;
@@ -95,22 +94,6 @@ pub fn fill(work: &mut [u32], value: u32) {
         work[i] = value;
         i += 1;
     }
-}
-
-// Reads until a buffer is full or the input ends, and answers how many bytes it put at the start of the buffer.
-pub fn read_full(rt: &impl Input, to: &mut [u8]) -> io::Result<usize>
-    ensures { IfOk result (λ n. n ≤ length to.new) }
-{
-    let mut input = rt.reader();
-    let mut done = 0;
-    while done < to.len() {
-        let n = input.read(&mut to[done..])?;
-        if n == 0 {
-            break;
-        }
-        done += n;
-    }
-    Ok(done)
 }
 
 pub fn say(rt: &impl Print, bytes: &[u8]) -> io::Result<()> {

@@ -154,6 +154,6 @@ fn frames(rt: &impl Print, all: &[u8]) -> io::Result<()> {
 
 fn main(rt: HostRuntime) -> io::Result<()> {
     let mut all = [0u8; 262144];
-    let n = test_frames::read_full(&rt, &mut all)?;
+    let n = program_input::read_full(&mut rt.reader(), &mut all)?;
     frames(&rt, &all[0..n])
 }

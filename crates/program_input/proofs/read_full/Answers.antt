@@ -2,8 +2,8 @@
 use Rattle.std.proofs.Common.{rules, sym, subst}
 use Rattle.std.specs.Io.KnownBytes.{Consumes}
 use Rattle.std.proofs.KnownBytes.{Consumes-trans}
-use Rattle.namecheck.proofs.Bytes.{take-put_mid_more}
-use Rattle.namecheck.proofs.read_full.Goals as goal
+use Rattle.program_input.proofs.Bytes.{take-put_mid_more}
+use Rattle.program_input.proofs.read_full.Goals as goal
 
 pub loop-done-preserved : goal.loop-done-preserved
 loop-done-preserved g c =

@@ -1,0 +1,2 @@
+-- What the proof of the reading needs of lists.
+pub mod Bytes
