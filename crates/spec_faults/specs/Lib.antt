@@ -5,3 +5,4 @@ pub mod Bindings
 pub mod Faults
 pub mod Rule
 pub mod Rust
+pub mod Kinds

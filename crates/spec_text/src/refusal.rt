@@ -1,4 +1,7 @@
 // Refusals.
+ghost use Rattle.std.specs.Prelude.{◌≡◌};
+ghost use Rattle.spec_text.specs.Numbers.{refusal_number};
+
 pub const TEXT_TOO_LONG: usize = 1; // the text has over 65,536 bytes
 
 pub const WORK_TOO_SHORT: usize = 2; // the work buffer has under 16,384 numbers
@@ -18,3 +21,31 @@ pub const OUTPUT_TOO_SHORT: usize = 16; // the report does not fit its output
 pub const NO_SUCH_FAULT: usize = 17; // there is no fault i
 
 pub const MESSAGE_TOO_LONG: usize = 18; // the message does not fit its output
+
+// Why a text is not read.
+#[derive(Clone, Copy, PartialEq, Eq)]
+pub enum Refusal {
+    TextTooLong, // the text has over 65,536 bytes
+    WorkTooShort, // the work buffer has under 16,384 numbers
+    LineMissing, // the text ends and a line is due
+    LineLeft, // a line is left and none is due
+    Malformed, // unknown word, wrong fields, bad name or number, no LF
+    NotDue, // well formed, not due here
+    OverLimit, // over 4,096 lines, depth 64 or 16 parameters
+}
+
+impl Refusal {
+    // Its number in the documents.
+    pub fn number(self) -> usize
+        ensures { result ≡ refusal_number self }
+    {
+        self as usize + 1
+    }
+}
+
+// A text that is not read, and its line: the one that is wrong, missing or left; 0 for the first two.
+#[derive(Clone, Copy, PartialEq, Eq)]
+pub struct Refused {
+    pub why: Refusal,
+    pub line: usize,
+}
