@@ -1,2 +1,0 @@
--- Parts: a part of the text.
-pub mod Parts
