@@ -1,33 +1,17 @@
 -- Fields and runs. The code runs over the bytes of a class, as the digits, while a contract speaks of the field, up to the next tab or LF.
 -- So far a run and the field go together (`Run`). Where the run stops, the field is all of the class only if it ends there (`run_stop`);
 -- a tab or LF there ends the field, and the run is the whole of it (`run_whole`); another byte leaves no such field (`run_broken`).
-use mathlib.Core.Path.{◌≡◌, refl, sym, ap, ◌∙◌}
-use mathlib.Core.Bool.{Bool, true, false, cond, ◌&&◌, true≢false, false≢true}
-use mathlib.Core.List.{[], ◌∷◌}
-use Prim.Native.Nat.{ℕ, zero, suc, ◌+◌, ◌-◌, ◌≤◌, ◌<◌, suc-le-suc}
-use native.Mathlib.Numerals.{add-one}
-use native.Mathlib.Omega.{arith}
-use lib.Dec.{eqb}
-use lib.ListN.{length, get_or, drop, length-drop}
-use lib.Seq.{drop-cons}
-use borrow.Author.Tests.{eq-eqb, ne_eqb, eqb-true}
+use Rattle.std.proofs.Common.{◌≡◌, refl, sym, ◌∙◌, ℕ, zero, suc, ◌+◌, ◌-◌, ◌≤◌, ◌<◌, suc-le-suc, add-one, one-add, arith, Bool, true, false, cond, ◌&&◌, true≢false, [], ◌∷◌, length, get_or, take, drop, length-drop, drop-cons, ne_eqb, Some, None, position, eqb, bytes_eq, nat_lt, not, take_all, ltb-false, ap}
+use Rattle.std.proofs.lemmas.Option.{cond_some}
+use Rattle.std.specs.List.{position_or_len}
 use Rattle.spec_text.specs.Bytes.{Bytes, same, all, is_digit, is_name_byte}
-use Rattle.spec_text.proofs.Lists.{and_split}
-use Rattle.read_fields.specs.FieldsModel.{field, field_at, end_of, end_byte, ends_at, past, past_end, refused, hash_from, mix}
+use Rattle.spec_text.proofs.Lists.{and_split, same_eq}
+use Rattle.read_fields.specs.FieldsModel.{field, field_at, hash_from, mix}
 use Rattle.read_bytes.specs.BytesModel.{is_end}
-use Rattle.read_fields.specs.declared.Cursor.{Cursor}
 
 -- ---- tests
 pub clash : {t : Bool} → t ≡ true → t ≡ false → ⊥
 clash e f = true≢false (sym e ∙ f)
-
-pub never : (t : Bool) → (t ≡ true → ⊥) → false ≡ t
-never true h = absurd (h refl)
-never false h = refl
-
--- a byte that was read and then tested
-pub tested : (p : ℕ → Bool) {b x : ℕ} {r t : Bool} → b ≡ x → r ≡ p b → r ≡ t → p x ≡ t
-tested p e f g = ap p (sym e) ∙ (sym f ∙ g)
 
 -- ---- classes of bytes: tab, LF and 0, which stands for the end of the text, are in none
 pub record Class (p : ℕ → Bool) : Type 0 where
@@ -50,7 +34,7 @@ inside p none (x ∷ s) zero h = omega arith
 inside p none (x ∷ s) (suc i) h = suc-le-suc (inside p none s i h)
 
 -- ---- the field at an offset: its first byte, its end, its length
-pub field_cons : (s : Bytes) (i : ℕ) → i < length s → is_end (get_or s i 0) ≡ false → field_at s i ≡ get_or s i 0 ∷ field_at s (i + 1)
+field_cons : (s : Bytes) (i : ℕ) → i < length s → is_end (get_or s i 0) ≡ false → field_at s i ≡ get_or s i 0 ∷ field_at s (i + 1)
 unfolding field
 field_cons s i l h = rw (add-one, drop-cons s i 0) (rw (h, field))
 
@@ -63,7 +47,7 @@ field_end s i h =
     let l : i < length s = inside is_end refl s i h in
     rw (drop-cons s i 0) (rw (h, field))
 
-pub field_stop : (p : ℕ → Bool) (s : Bytes) (i : ℕ) → p (get_or s i 0) ≡ false → all p (field_at s i) ≡ true → field_at s i ≡ []
+field_stop : (p : ℕ → Bool) (s : Bytes) (i : ℕ) → p (get_or s i 0) ≡ false → all p (field_at s i) ≡ true → field_at s i ≡ []
 unfolding field
 field_stop p [] zero h a = refl
 field_stop p [] (suc i) h a = refl
@@ -97,101 +81,66 @@ field_length (b ∷ x) = go (is_end b) refl (field_length x)
 pub field_within : (s : Bytes) (i : ℕ) → length (field_at s i) ≤ length s - i
 field_within s i = omega (arith, field_length (drop i s), length-drop i s)
 
--- ---- a run of bytes of a class, from at up to i
-pub record Run (p : ℕ → Bool) (s : Bytes) (at i : ℕ) : Type 0 where
-  pub from : at ≤ i
-  pub ends : end_of s at ≡ end_of s i
-  pub each : all p (field_at s at) ≡ all p (field_at s i)
+-- ---- a run of bytes of a class, up to i
+pub record Run (p : ℕ → Bool) (x : Bytes) (i : ℕ) : Type 0 where
+  pub ends : length (field x) ≡ i + length (field_at x i)
+  pub each : all p (field x) ≡ all p (field_at x i)
 
-pub run_here : (p : ℕ → Bool) (s : Bytes) (at : ℕ) → Run p s at at
-run_here p s at = record { from = omega arith; ends = refl; each = refl }
+-- the run is the whole field, which a tab or LF ends
+pub record Whole (p : ℕ → Bool) (x : Bytes) (i : ℕ) : Type 0 where
+  pub len : length (field x) ≡ i
+  pub each : all p (field x) ≡ true
+  pub rest : field_at x i ≡ []
 
--- the run is the whole field, which a tab or LF ends, and the next cursor stands past that
-pub record Whole (p : ℕ → Bool) (s : Bytes) (at i : ℕ) (next : Cursor) : Type 0 where
-  pub ends : end_of s at ≡ i
-  pub each : all p (field_at s at) ≡ true
-  pub ended : is_end (end_byte s at) ≡ true
-  pub rest : field_at s i ≡ []
-  pub steps : next ≡ past s at
-
--- the cursor past the byte at an offset
-abbrev after : Bytes → ℕ → Cursor
-after s i = record { at = i + 1; more = eqb (get_or s i 0) 9; ok = true }
-
-past_ok : (s : Bytes) (i : ℕ) (n : Cursor) → n ≡ past_end s i → n.ok ≡ is_end (get_or s i 0)
-past_ok s i n e = ap (λ (c : Cursor). c.ok) e ∙ go (is_end (get_or s i 0))
-  where
-    go : (t : Bool) → (cond t (after s i) refused).ok ≡ t
-    go true = refl
-    go false = refl
-
-module _ {p : ℕ → Bool} {s : Bytes} {at i : ℕ} where
-  pub run_more : Class p → p (get_or s i 0) ≡ true → Run p s at i → Run p s at (i + 1)
+module _ {p : ℕ → Bool} {x : Bytes} {i : ℕ} where
+  pub run_more : Class p → p (get_or x i 0) ≡ true → Run p x i → Run p x (i + 1)
   run_more k h r =
-      let e : field_at s i ≡ get_or s i 0 ∷ field_at s (i + 1) = field_more k s i h in
-      let a : all p (field_at s i) ≡ all p (field_at s (i + 1)) = ap (all p) e ∙ ap (λ t. t && all p (field_at s (i + 1))) h in
-      record { from = omega arith; ends = omega (arith, ap length e); each = r.each ∙ a }
+      let e : field_at x i ≡ get_or x i 0 ∷ field_at x (i + 1) = field_more k x i h in
+      let a : all p (field_at x i) ≡ all p (field_at x (i + 1)) = ap (all p) e ∙ ap (λ t. t && all p (field_at x (i + 1))) h in
+      record { ends = omega (arith, ap length e); each = r.each ∙ a }
 
   -- where the run stops, the field is all of the class only if it ends there
-  pub run_stop : Run p s at i → p (get_or s i 0) ≡ false → all p (field_at s at) ≡ true → end_of s at ≡ i
-  run_stop r h a = let e : field_at s i ≡ [] = field_stop p s i h (sym r.each ∙ a) in omega (arith, ap length e)
+  pub run_stop : Run p x i → p (get_or x i 0) ≡ false → all p (field x) ≡ true → length (field x) ≡ i
+  run_stop r h a = let e : field_at x i ≡ [] = field_stop p x i h (sym r.each ∙ a) in omega (arith, ap length e)
 
-  -- where the step past the run is ok, it is the step past the field; where it is not, no tab or LF ends the field
-  pub run_whole : Run p s at i → (n : Cursor) → n ≡ past_end s i → n.ok ≡ true → Whole p s at i n
-  run_whole r n e o =
-      let d : is_end (get_or s i 0) ≡ true = sym (past_ok s i n e) ∙ o in
-      let f : field_at s i ≡ [] = field_end s i d in
-      let q : end_of s at ≡ i = omega (arith, ap length f) in
-      record {
-        ends = q;
-        each = r.each ∙ ap (all p) f;
-        ended = ap (λ k. is_end (get_or s k 0)) q ∙ d;
-        rest = f;
-        steps = e ∙ (ap (λ t. cond t (after s i) refused) d ∙ ap (after s) (sym q));
-      }
+  pub run_whole : Run p x i → is_end (get_or x i 0) ≡ true → Whole p x i
+  run_whole r d =
+      let f : field_at x i ≡ [] = field_end x i d in
+      record { len = omega (arith, ap length f); each = r.each ∙ ap (all p) f; rest = f }
 
-  pub run_broken : Run p s at i → p (get_or s i 0) ≡ false → (n : Cursor) → n ≡ past_end s i → n.ok ≡ false
-      → all p (field_at s at) ≡ true → is_end (end_byte s at) ≡ true → ⊥
-  run_broken r h n e o a d = clash d (ap (λ k. is_end (get_or s k 0)) (run_stop r h a) ∙ (sym (past_ok s i n e) ∙ o))
+pub run_here : (p : ℕ → Bool) (x : Bytes) → Run p x 0
+run_here p x = record { ends = omega arith; each = refl }
+
+-- ---- a field, by the first byte that ends it
+field_take : (x : Bytes) → take (position_or_len is_end x) x ≡ field x
+unfolding field
+field_take [] = refl
+field_take (b ∷ x) = go (is_end b) (field_take x)
+  where
+    go : (t : Bool) → take (position_or_len is_end x) x ≡ field x
+        → take (cond (not t) (1 + position_or_len is_end x) 0) (b ∷ x) ≡ (elim t [ true ↦ [] | false ↦ b ∷ field x ])
+    go true h = refl
+    go false h = rw (one-add) (ap (λ (l : Bytes). b ∷ l) h)
+
+pub field_found : (x : Bytes) (n : ℕ) → position is_end x ≡ Some n → take n x ≡ field x
+field_found x n e = ap (λ (i : ℕ). take i x) (sym (cond_some _ _ _ e).1) ∙ field_take x
+
+pub field_all : (x : Bytes) → position is_end x ≡ None → x ≡ field x
+field_all x e = go (nat_lt (position_or_len is_end x) (length x)) refl e
+  where
+    go : (t : Bool) → nat_lt (position_or_len is_end x) (length x) ≡ t → cond t (Some (position_or_len is_end x)) None ≡ None → x ≡ field x
+    go true h e = absurd cc
+    go false h e = sym (take_all _ x (ltb-false _ _ h)) ∙ field_take x
 
 -- ---- a field and a word, byte for byte
-pub same_nothing : (w : Bytes) → eqb (length w) 0 ≡ same [] w
-same_nothing [] = refl
-same_nothing (b ∷ w) = ne_eqb (suc (length w)) 0 (λ e. omega arith)
+pub same_bytes : (x y : Bytes) → bytes_eq x y ≡ same x y
+same_bytes [] [] = refl
+same_bytes [] (b ∷ y) = refl
+same_bytes (a ∷ x) [] = refl
+same_bytes (a ∷ x) (b ∷ y) = ap (λ t. eqb a b && t) (same_bytes x y)
 
 pub same_length : (x y : Bytes) → same x y ≡ true → length x ≡ length y
-same_length [] [] e = refl
-same_length [] (b ∷ y) e = absurd (false≢true e)
-same_length (a ∷ x) [] e = absurd (false≢true e)
-same_length (a ∷ x) (b ∷ y) e = ap suc (same_length x y (and_split (eqb a b) (same x y) e).1)
-
-module _ (s w : Bytes) (j i : ℕ) (l : i < length w) where
-  -- the byte at i of a word is the one at j of the text, and ends no field
-  pub same_first : j < length s → same (field_at s j) (drop i w) ≡ true → (get_or s j 0 ≡ get_or w i 0) × (is_end (get_or w i 0) ≡ false)
-  same_first k h = go (is_end (get_or s j 0)) refl
-    where
-      go : (t : Bool) → is_end (get_or s j 0) ≡ t → (get_or s j 0 ≡ get_or w i 0) × (is_end (get_or w i 0) ≡ false)
-      go true e = absurd (clash h (rw (field_end s j e, drop-cons w i 0)))
-      go false e =
-          let q : eqb (get_or s j 0) (get_or w i 0) ≡ true = (and_split (eqb (get_or s j 0) (get_or w i 0)) _ (rw (field_cons s j k e, drop-cons w i 0) at h)).0 in
-          let f : get_or s j 0 ≡ get_or w i 0 = eqb-true _ _ q in
-          (f, rw f at e)
-
-  pub same_more : j < length s → get_or s j 0 ≡ get_or w i 0 → is_end (get_or w i 0) ≡ false
-      → same (field_at s j) (drop i w) ≡ same (field_at s (j + 1)) (drop (i + 1) w)
-  same_more k q e = rw (field_cons s j k (ap is_end q ∙ e), add-one i, drop-cons w i 0) (rw (eq-eqb _ _ q))
-
-pub same_none : (s : Bytes) (j : ℕ) → same (field_at s j) [] ≡ ends_at s j
-unfolding field
-same_none s j = go (drop j s)
-  where
-    go : (x : Bytes) → same (field x) [] ≡ (elim x [ [] ↦ true | b ∷ bs ↦ is_end b ])
-    go [] = refl
-    go (b ∷ x) = end (is_end b) refl
-      where
-        end : (t : Bool) → is_end b ≡ t → same (field (b ∷ x)) [] ≡ is_end b
-        end true e = rw (e, field)
-        end false e = rw (e, field)
+same_length x y e = ap length (same_eq x y e)
 
 -- ---- the hash
 pub hash_more : (h b : ℕ) (x : Bytes) → hash_from h (b ∷ x) ≡ hash_from (mix h b) x

@@ -1,5 +1,5 @@
 -- A line's fields as a cursor meets them, one after the other: what each step takes, and where the next one stands.
-use Rattle.std.specs.Prelude.{ℕ, ◌+◌, ◌*◌, ◌%◌, Bool, true, false, cond, not, ◌&&◌, [], ◌∷◌, eqb, length, get_or, drop}
+use Rattle.std.specs.Prelude.{ℕ, ◌+◌, ◌*◌, ◌%◌, Bool, true, false, cond, ◌&&◌, [], ◌∷◌, eqb, length, get_or, drop, Option, Some, None}
 use Rattle.spec_text.specs.Bytes.{Bytes, same, is_name, is_number, value_of}
 use Rattle.read_fields.specs.declared.Cursor.{Cursor}
 use Rattle.read_fields.specs.declared.Number.{Number}
@@ -21,46 +21,32 @@ end_of text at = at + length (field_at text at)
 abbrev pub end_byte : Bytes → ℕ → ℕ
 end_byte text at = get_or text (end_of text at) 0
 
--- no further step takes anything
-abbrev pub refused : Cursor
-refused = record { at = 0; more = false; ok = false }
-
 -- at the first field of a line
 abbrev pub start_at : ℕ → Cursor
-start_at at = record { at = at; more = true; ok = true }
+start_at at = record { at = at; more = true }
 
 -- the cursor past the field: after a tab there is one more field, after LF none
 abbrev pub past : Bytes → ℕ → Cursor
-past text at = record { at = end_of text at + 1; more = eqb (end_byte text at) 9; ok = true }
-
--- a field ends at an offset: at a tab, an LF, or the end of the text
-abbrev pub ends_at : Bytes → ℕ → Bool
-ends_at text i = elim (drop i text) [ [] ↦ true | b ∷ bs ↦ is_end b ]
-
--- the cursor past the byte at an offset, which has to be a tab or LF
-abbrev pub past_end : Bytes → ℕ → Cursor
-past_end text i = cond (is_end (get_or text i 0)) (record { at = i + 1; more = eqb (get_or text i 0) 9; ok = true }) refused
+past text at = record { at = end_of text at + 1; more = eqb (end_byte text at) 9 }
 
 -- the cursor after the byte at an offset, which ends a field
 abbrev pub next_at : Bytes → ℕ → Cursor
-next_at text end = record { at = end + 1; more = eqb (get_or text end 0) 9; ok = true }
+next_at text end = record { at = end + 1; more = eqb (get_or text end 0) 9 }
+
+-- the cursor past the byte at an offset, which has to be a tab or LF
+abbrev pub past_end : Bytes → ℕ → Option Cursor
+past_end text i = cond (is_end (get_or text i 0)) (Some (next_at text i)) None
 
 -- a step takes a field where there is one, its bytes are right, and a tab or LF ends it
 abbrev pub takes : (Bytes → Bool) → Bytes → Cursor → Bool
-takes right text c = c.ok && (c.more && (right (field_at text c.at) && is_end (end_byte text c.at)))
+takes right text c = c.more && (right (field_at text c.at) && is_end (end_byte text c.at))
 
-abbrev pub no_number : Number
-no_number = record { value = 0; next = refused }
+abbrev pub field_from : Bytes → Bytes → Cursor → Option Cursor
+field_from word text c = cond (takes (λ x. same x word) text c) (Some (past text c.at)) None
 
-abbrev pub no_name : Name
-no_name = record { at = 0; len = 0; hash = 0; next = refused }
-
-abbrev pub field_from : Bytes → Bytes → Cursor → Cursor
-field_from word text c = cond (takes (λ x. same x word) text c) (past text c.at) refused
-
-abbrev pub number_from : ℕ → Bytes → Cursor → Number
+abbrev pub number_from : ℕ → Bytes → Cursor → Option Number
 number_from largest text c =
-    cond (takes (is_number largest) text c) (record { value = value_of (field_at text c.at); next = past text c.at }) no_number
+    cond (takes (is_number largest) text c) (Some (record { value = value_of (field_at text c.at); next = past text c.at })) None
 
 -- ---- a hash of a name's bytes: 12 bits, one byte after the other
 abbrev pub mix : ℕ → ℕ → ℕ
@@ -73,12 +59,12 @@ hash_from h (b ∷ bs) = hash_from (mix h b) bs
 abbrev pub hash_of : Bytes → ℕ
 hash_of x = hash_from 0 x
 
-abbrev pub name_from : Bytes → Cursor → Name
+abbrev pub name_from : Bytes → Cursor → Option Name
 name_from text c =
     cond (takes is_name text c)
-    (record { at = c.at; len = length (field_at text c.at); hash = hash_of (field_at text c.at); next = past text c.at })
-    no_name
+    (Some (record { at = c.at; len = length (field_at text c.at); hash = hash_of (field_at text c.at); next = past text c.at }))
+    None
 
 -- after the last field
-abbrev pub end_from : Cursor → Cursor
-end_from c = cond (c.ok && not c.more) c refused
+abbrev pub end_from : Cursor → Option Cursor
+end_from c = cond c.more None (Some c)

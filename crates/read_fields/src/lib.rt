@@ -1,20 +1,19 @@
-// A cursor over the fields of a line: it goes by value, and each step hands back the next one. A step that finds something else hands
-// back a cursor that is not ok, which takes nothing any more, so that a line's reader needs no branch.
+// A cursor over the fields of a line: it goes by value, and each step hands back the next one, or none where it finds something else.
 #![tactic(auto)]
 
-ghost use Rattle.std.specs.Prelude.{◌≡◌, ◌+◌, ◌<◌, ◌≤◌, length};
+ghost use Rattle.std.specs.Prelude.{◌≡◌, ◌<◌, ◌≤◌, length, drop, position};
 ghost use Rattle.spec_text.specs.Bytes.{same};
-ghost use Rattle.read_fields.specs.FieldsModel.{next_at, field_at, refused, start_at, field_from, number_from, hash_of, name_from, mix, end_from, ends_at, past_end, no_number, no_name};
+ghost use Rattle.read_bytes.specs.BytesModel.{is_end};
+ghost use Rattle.read_fields.specs.FieldsModel.{next_at, field_at, start_at, field_from, number_from, hash_of, name_from, mix, end_from, past_end};
 
 // The most bytes of a name.
 const LONGEST_NAME: usize = 63;
 
-// Where the next field starts, whether there is one, and whether all went well so far.
+// Where the next field starts, and whether there is one.
 #[derive(Clone, Copy)]
 pub struct Cursor {
     pub at: usize,
     pub more: bool,
-    pub ok: bool,
 }
 
 // A number, and the cursor past it.
@@ -34,120 +33,58 @@ pub struct Name {
 }
 
 // Whether the field at an offset has these bytes.
+#[tactic(auto, using(crate::proofs::Fields::same_bytes))]
 pub fn is_field(text: &[u8], at: usize, word: &[u8]) -> bool
     ensures { result ≡ same (field_at text.now at) word.now }
 {
-    let n = word.len();
-    if text.len() <= at {
-        return n == 0;
-    }
-    if text.len() - at < n {
-        return false;
-    }
-    let mut i = 0;
-    while i < n {
-        let b = word[i];
-        if text[at + i] != b {
-            return false;
-        }
-        if read_bytes::is_end(b) {
-            return false;
-        }
-        i += 1;
-    }
-    ends_at(text, at + n)
-}
-
-// Whether a field ends at i: at a tab, an LF or the end of the text.
-fn ends_at(text: &[u8], i: usize) -> bool
-    ensures { result ≡ ends_at text.now i }
-{
-    if i < text.len() {
-        read_bytes::is_end(text[i])
-    } else {
-        true
-    }
+    field(text, at) == word
 }
 
 // The hash of a name.
 pub fn hash(name: &[u8]) -> usize
-    ensures { (result ≡ hash_of name.now) × (result < 4096) }
+    ensures value { result ≡ hash_of name.now }
+    ensures bound { result < 4096 }
 {
-    let mut h = 0;
-    let mut i = 0;
-    while i < name.len() {
-        h = mixed(h, name[i]);
-        i += 1;
+    let mut hash = 0;
+    for b in name {
+        hash = mixed(hash, *b);
     }
-    h
+    hash
 }
 
 // A hash with one more byte.
-fn mixed(h: usize, b: u8) -> usize
-    requires { h < 4096 }
-    ensures { (result ≡ mix h b) × (result < 4096) }
+fn mixed(hash: usize, b: u8) -> usize
+    requires { hash < 4096 }
+    ensures value { result ≡ mix hash b }
+    ensures bound { result < 4096 }
 {
-    (h * 1597 + read_bytes::wide(b)) % 4096
+    (hash * 1597 + usize::from(b)) % 4096
 }
 
-// The cursor that takes nothing any more.
-pub fn refused_cursor() -> Cursor
-    ensures { result ≡ refused }
+// The text from an offset on.
+fn rest(text: &[u8], at: usize) -> &[u8]
+    ensures { result.now ≡ drop at text.now }
 {
-    Cursor {
-        at: 0,
-        more: false,
-        ok: false,
-    }
+    text.get(at..).unwrap_or(&[])
 }
 
-fn refused_number() -> Number
-    ensures { result ≡ no_number }
+// Where a tab or LF stands, the first one.
+fn first_end(text: &[u8]) -> Option<usize>
+    ensures { result ≡ position is_end text.now }
 {
-    Number {
-        value: 0,
-        next: refused_cursor(),
-    }
-}
-
-fn refused_name() -> Name
-    ensures { result ≡ no_name }
-{
-    Name {
-        at: 0,
-        len: 0,
-        hash: 0,
-        next: refused_cursor(),
-    }
-}
-
-// The cursor past the byte at i, where that is a tab or LF.
-fn past_end(text: &[u8], i: usize) -> Cursor
-    ensures { result ≡ past_end text.now i }
-{
-    let b = read_bytes::byte_at(text, i);
-    if read_bytes::is_end(b) {
-        return Cursor {
-            at: i + 1,
-            more: b == read_bytes::TAB,
-            ok: true,
-        };
-    }
-    refused_cursor()
+    text.iter().position(|b| read_bytes::is_end(*b))
 }
 
 // The field at an offset.
+#[tactic(auto, using(crate::proofs::Fields::field_found, crate::proofs::Fields::field_all))]
 pub fn field(text: &[u8], at: usize) -> &[u8]
     ensures { result.now ≡ field_at text.now at }
 {
-    if text.len() <= at {
-        return &text[0..0];
+    let rest = rest(text, at);
+    match first_end(rest) {
+        Some(len) => &rest[..len],
+        None => rest,
     }
-    let mut end = at;
-    while end < text.len() && !read_bytes::is_end(text[end]) {
-        end += 1;
-    }
-    &text[at..end]
 }
 
 // The cursor after the byte at an offset, which ends a field.
@@ -158,7 +95,17 @@ pub fn next(text: &[u8], end: usize) -> Cursor
     Cursor {
         at: end + 1,
         more: read_bytes::byte_at(text, end) == read_bytes::TAB,
-        ok: true,
+    }
+}
+
+// The cursor past the byte at an offset, where that is a tab or LF.
+fn past_end(text: &[u8], end: usize) -> Option<Cursor>
+    ensures { result ≡ past_end text.now end }
+{
+    if read_bytes::is_end(*text.get(end)?) {
+        Some(next(text, end))
+    } else {
+        None
     }
 }
 
@@ -167,116 +114,82 @@ impl Cursor {
     pub fn start(at: usize) -> Cursor
         ensures { result ≡ start_at at }
     {
-        Cursor {
-            at: at,
-            more: true,
-            ok: true,
-        }
+        Cursor { at, more: true }
     }
 
     // The field that has these bytes.
-    pub fn field(self, text: &[u8], word: &[u8]) -> Cursor
+    #[tactic(auto, using(crate::proofs::Takes::field_taken, crate::proofs::Fields::same_length, crate::proofs::Fields::field_within))]
+    pub fn field(self, text: &[u8], word: &[u8]) -> Option<Cursor>
         ensures { result ≡ field_from word.now text.now self }
     {
-        if self.ok {
-            if self.more {
-                if is_field(text, self.at, word) {
-                    return past_end(text, self.at + word.len());
-                }
-            }
+        if self.more && is_field(text, self.at, word) {
+            past_end(text, self.at + word.len())
+        } else {
+            None
         }
-        refused_cursor()
     }
 
     // A number, written with no leading zero.
-    pub fn number(self, text: &[u8], largest: u32) -> Number
+    #[tactic(auto, using(crate::proofs::Takes::number_broken, crate::proofs::Takes::number_above, crate::proofs::Fields::run_here))]
+    pub fn number(self, text: &[u8], largest: u32) -> Option<Number>
         ensures { result ≡ number_from largest text.now self }
     {
-        if !self.ok {
-            return refused_number();
-        }
         if !self.more {
-            return refused_number();
+            return None;
         }
-        let at = self.at;
-        let most = largest as u64;
-        let mut i = at;
-        let mut v: u64 = 0;
-        while read_bytes::is_digit(read_bytes::byte_at(text, i)) {
-            let d = text[i] - 48;
-            v = v * 10 + (d as u64);
-            if most < v {
-                return refused_number();
+        let digits = rest(text, self.at);
+        let mut value: u64 = 0;
+        for (len, b) in digits.iter().enumerate() {
+            if !read_bytes::is_digit(*b) {
+                if len == 0 || 1 < len && digits[0] == b'0' {
+                    return None;
+                }
+                let next = past_end(text, self.at + len)?;
+                return Some(Number {
+                    value: value as u32,
+                    next,
+                });
             }
-            i += 1;
-        }
-        if i == at {
-            return refused_number();
-        }
-        if at + 1 < i {
-            if text[at] == 48 {
-                return refused_number();
+            value = value * 10 + u64::from(*b - b'0');
+            if u64::from(largest) < value {
+                return None;
             }
         }
-        let c = past_end(text, i);
-        if c.ok {
-            Number {
-                value: v as u32,
-                next: c,
-            }
-        } else {
-            refused_number()
-        }
+        None
     }
 
     // A name, with its hash.
-    pub fn name(self, text: &[u8]) -> Name
+    #[tactic(auto, using(crate::proofs::Takes::name_broken, crate::proofs::Fields::run_here))]
+    pub fn name(self, text: &[u8]) -> Option<Name>
         ensures { result ≡ name_from text.now self }
     {
-        if !self.ok {
-            return refused_name();
-        }
         if !self.more {
-            return refused_name();
+            return None;
         }
-        let at = self.at;
-        if read_bytes::is_digit(read_bytes::byte_at(text, at)) {
-            return refused_name();
-        }
-        let mut i = at;
-        let mut h = 0;
-        while read_bytes::is_name_byte(read_bytes::byte_at(text, i)) {
-            h = mixed(h, text[i]);
-            i += 1;
-        }
-        if i == at {
-            return refused_name();
-        }
-        if LONGEST_NAME < i - at {
-            return refused_name();
-        }
-        let c = past_end(text, i);
-        if c.ok {
-            Name {
-                at: at,
-                len: i - at,
-                hash: h,
-                next: c,
+        let name = rest(text, self.at);
+        let mut hash = 0;
+        for (len, b) in name.iter().enumerate() {
+            if !read_bytes::is_name_byte(*b) {
+                if len == 0 || LONGEST_NAME < len || read_bytes::is_digit(name[0]) {
+                    return None;
+                }
+                let next = past_end(text, self.at + len)?;
+                return Some(Name {
+                    at: self.at,
+                    len,
+                    hash,
+                    next,
+                });
             }
-        } else {
-            refused_name()
+            hash = mixed(hash, *b);
         }
+        None
     }
 
     // The end of the line: no field is left.
-    pub fn line_end(self) -> Cursor
+    pub fn line_end(self) -> Option<Cursor>
         ensures { result ≡ end_from self }
     {
-        if self.ok {
-            if !self.more {
-                return self;
-            }
-        }
-        refused_cursor()
+        if self.more { None } else { Some(self) }
     }
 }

@@ -1,63 +1,42 @@
 -- A value above the largest only grows; where the loop stops, the field is a number only if it ends there.
-use Rattle.std.proofs.Common.{arith, ap, ◌∙◌, ℕ, ◌+◌, ◌-◌, ◌*◌, ◌≡◌, get_or, true, false}
-use borrow.Author.Tests.{not-false, ne_eqb, eq-eqb}
-use Rattle.spec_text.specs.Bytes.{is_digit, decimal, leading_zero}
+use Rattle.std.proofs.Common.{◌≡◌, ap, ◌∙◌, sym, arith, ℕ, ◌+◌, ◌-◌, ◌*◌, ◌<◌, get_or, eqb-true, eq-eqb, le-ltb, false, true}
+use borrow.Author.Tests.{not-false}
+use Rattle.spec_text.specs.Bytes.{is_digit, decimal}
 use Rattle.read_fields.specs.FieldsModel.{field_at}
-use Rattle.read_fields.proofs.Fields.{clash, tested, digits, field_more, run_more, run_stop, run_whole, run_broken}
-use Rattle.read_fields.proofs.Takes.{IsNumber, no_number_lem, number_taken, led_by, led_one, decimal_grows}
+use Rattle.read_fields.proofs.Fields.{clash, digits, field_more, run_more}
+use Rattle.read_fields.proofs.Takes.{number_empty, number_led, number_taken}
 use Rattle.read_fields.proofs.Cursor.number.Goals as goal
-use Rattle.read_fields.proofs.Cursor.number.Goals.{then-at-i+else-text-at-eq48, else-at-i}
+use Rattle.read_fields.proofs.Cursor.number.Goals.{then-len-eq0-via-then-len-eq0, then-len-eq0-via-else-len-eq0+then-digits-eq48, then-len-gt1, else-len-gt1}
 
-pub returns-then-most-v : goal.returns-then-most-v
-returns-then-most-v c =
-    let s = c.args.text.now in
-    let i = c.loop-d.i in
-    let d = get_or s i 0 - 48 in
-    let turn : is_digit (get_or s i 0) ≡ true = tested is_digit c.byte_at.ensures c.is_digit.ensures c.loop-d-test.true in
-    let more = c.loop-d.invariant.2 ∙ ap (decimal c.loop-d.v) (field_more digits s i turn) in
-    c.refused_number-then-most-v.ensures ∙ no_number_lem c.args.largest s c.args.self (λ k n. omega (arith, more, n.small, decimal_grows (10 * c.loop-d.v + d) (field_at s (i + 1))))
+pub returns-then-len-eq0 : goal.returns-then-len-eq0
+returns-then-len-eq0 c =
+    let stop : is_digit (get_or c.rest-digits.result.now c.loop-len.len 0) ≡ false = cc in
+    elim c.then-len-eq0.branch [
+      | then-len-eq0-via-then-len-eq0 w ↦ number_empty c.args.text.now _ c.args.self c.rest-digits.ensures _ _ c.loop-len.invariant.0 stop w.if-len-eq0.true
+      | then-len-eq0-via-else-len-eq0+then-digits-eq48 w ↦ elim w.if-len-gt1.branch [
+        | then-len-gt1 x ↦
+            let z : get_or c.rest-digits.result.now 0 0 ≡ 48 = eqb-true _ _ (sym x.value-is ∙ w.if-digits-eq48.true) in
+            number_led c.args.text.now _ c.args.self c.rest-digits.ensures _ _ c.loop-len.invariant.0 stop x.if-len-gt1.true z
+        | else-len-gt1 x ↦ absurd (clash w.if-digits-eq48.true (x.value-is ∙ le-ltb _ _ x.if-len-gt1.false))
+      ]
+    ]
 
-pub loop-d-preserved : goal.loop-d-preserved
-loop-d-preserved c =
-    let s = c.args.text.now in
-    let i = c.loop-d.i in
-    let v = c.loop-d.v in
-    let d = get_or s i 0 - 48 in
-    let turn : is_digit (get_or s i 0) ≡ true = tested is_digit c.byte_at.ensures c.is_digit.ensures c.loop-d-test.true in
-    let more = c.loop-d.invariant.2 ∙ ap (decimal v) (field_more digits s i turn) in
-    let e : 10 * v + d ≡ v * 10 + d = omega arith in
-    (run_more digits turn c.loop-d.invariant.0, omega arith, more ∙ ap (λ (k : ℕ). decimal k (field_at s (i + 1))) e)
-
-pub returns-then-i-at : goal.returns-then-i-at
-returns-then-i-at c =
-    let s = c.args.text.now in
-    let stop : is_digit (get_or s c.loop-d.i 0) ≡ false = tested is_digit c.byte_at.ensures c.is_digit.ensures c.loop-d-test.false in
-    c.refused_number-then-i-at.ensures ∙ no_number_lem c.args.largest s c.args.self (λ t n. omega (arith, run_stop c.loop-d.invariant.0 stop n.each, n.some))
-
-pub returns-then-text-at-eq48 : goal.returns-then-text-at-eq48
-returns-then-text-at-eq48 c =
-    let s = c.args.text.now in
-    let at = c.args.self.at in
-    let stop : is_digit (get_or s c.loop-d.i 0) ≡ false = tested is_digit c.byte_at.ensures c.is_digit.ensures c.loop-d-test.false in
-    c.refused_number-then-text-at-eq48.ensures ∙ no_number_lem c.args.largest s c.args.self (λ t n.
-    clash (led_by s at (omega (arith, run_stop c.loop-d.invariant.0 stop n.each)) ∙ eq-eqb _ 48 c.if-text-at-eq48.true) n.led)
-
-pub returns-then-c : goal.returns-then-c
-returns-then-c c =
-    let s = c.args.text.now in
-    let d = c.args.self in
-    let v = c.loop-d.v in
-    let w = run_whole c.loop-d.invariant.0 c.past_end-c.result c.past_end-c.ensures c.if-c.true in
-    let led : leading_zero (field_at s d.at) ≡ false = elim c.if-at-i.branch [
-      | then-at-i+else-text-at-eq48 x ↦ led_by s d.at (omega (arith, w.ends)) ∙ ne_eqb _ 48 x.if-text-at-eq48.false
-      | else-at-i x ↦ led_one (field_at s d.at) (omega (arith, w.ends))
+pub returns-then-not-is_digit : goal.returns-then-not-is_digit
+returns-then-not-is_digit c =
+    let led : 1 < c.loop-len.len → get_or c.rest-digits.result.now 0 0 ≡ 48 → ⊥ = λ l z. elim c.if-len-gt1.branch [
+      | then-len-gt1 x ↦ clash (x.value-is ∙ eq-eqb _ _ z) c.if-digits-eq48.false
+      | else-len-gt1 x ↦ omega arith
     ] in
-    let q : decimal 0 (field_at s d.at) ≡ v = c.loop-d.invariant.2 ∙ ap (decimal v) w.rest in
-    let k : IsNumber c.args.largest (field_at s d.at) = record { some = omega (arith, w.ends); each = w.each; led = led; small = omega arith } in
-    number_taken c.args.largest s d c.loop-d.i _ _ (not-false _ c.if-not-self.false) (not-false _ c.if-not-self-2.false) w k q
+    number_taken c.args.text.now _ c.args.self c.rest-digits.ensures _ _ _ c.in_ok-next.next (not-false _ c.if-not-self.false) c.loop-len.invariant.0 c.loop-len.invariant.2
+    c.loop-len.invariant.1 c.if-len-eq0.false led (sym c.past_end.ensures ∙ c.in_ok-next.was)
 
-pub returns-else-c : goal.returns-else-c
-returns-else-c c =
-    let s = c.args.text.now in
-    let stop : is_digit (get_or s c.loop-d.i 0) ≡ false = tested is_digit c.byte_at.ensures c.is_digit.ensures c.loop-d-test.false in
-    c.refused_number-else-c.ensures ∙ no_number_lem c.args.largest s c.args.self (λ t n. run_broken c.loop-d.invariant.0 stop _ c.past_end-c.ensures c.if-c.false n.each t.ended)
+pub loop-len-preserved : goal.loop-len-preserved
+loop-len-preserved c =
+    let x = c.rest-digits.result.now in
+    let i = c.loop-len.len in
+    let v = c.loop-len.value in
+    let turn : is_digit (get_or x i 0) ≡ true = cc in
+    let d = get_or x i 0 - 48 in
+    let more = c.loop-len.invariant.2 ∙ ap (decimal v) (field_more digits x i turn) in
+    let e : 10 * v + d ≡ v * 10 + c.from.result = omega arith in
+    (run_more digits turn c.loop-len.invariant.0, omega arith, more ∙ ap (λ (k : ℕ). decimal k (field_at x (i + 1))) e)
