@@ -1,13 +1,6 @@
 -- How many lines are due below a line: at most 16,384, since a line has at most three counts, each is at most 4,096, and a word of the
 -- table has at most two children for each.
-use Prim.Native.Nat.{ℕ, ◌*◌, ◌≤◌, ◌<◌}
-use native.Mathlib.Nat.{mul-le-mul}
-use native.Mathlib.Omega.{arith}
-use mathlib.Core.Path.{◌≡◌, refl}
-use mathlib.Core.Bool.{Bool, true}
-use lib.Dec.{leb}
-use lib.ListN.{get_or}
-use borrow.Author.Tests.{leb-true}
+use Rattle.std.proofs.Common.{◌≡◌, refl, ℕ, ◌*◌, ◌≤◌, ◌<◌, mul-le-mul, arith, Bool, true, leb, leb-true, get_or}
 use Rattle.spec_text.specs.Lines.{StmtForm, ExprForm, Form, Word, words}
 use Rattle.spec_text.proofs.Lists.{test_at}
 use Rattle.read_words.specs.ChildrenModel.{children_of, children_by, Few}

@@ -1,24 +1,17 @@
 -- A word by its first byte: to try the words that begin with the byte at a cursor, one after the other in any order, is to look the field
 -- up in the whole table (`by_letter`). That all of them are tried is a test over the table, which computes (`listed`).
-use mathlib.Core.Path.{◌≡◌, refl, sym, ap, ap₂, ◌∙◌}
-use mathlib.Core.Bool.{Bool, true, false, cond, ◌&&◌, ◌||◌, true≢false, false≢true}
-use mathlib.Core.List.{List, [], ◌∷◌}
-use Prim.Native.Nat.{ℕ, zero, suc, ◌+◌, ◌<◌}
-use native.Mathlib.Nat.{add-zero, zero-add, add-suc, suc-add}
-use native.Mathlib.Omega.{arith}
-use lib.Dec.{eqb, ltb}
-use lib.ListN.{length, get_or, drop, length-drop}
-use borrow.Author.Tests.{eqb-true, eq-eqb, ltb-true}
+use Rattle.std.proofs.Common.{◌≡◌, refl, sym, ap, ◌∙◌, Bool, true, false, cond, ◌&&◌, ◌||◌, true≢false, List, [], ◌∷◌, ℕ, zero, suc, ◌+◌, ◌<◌, add-zero, zero-add, add-suc, suc-add, arith, eqb, ltb, length, get_or, drop, length-drop, eqb-true, eq-eqb, ltb-true, Option, Some, None}
+use Rattle.std.specs.Option.{option_or}
 use Rattle.spec_text.specs.Bytes.{Bytes, same, all}
 use Rattle.spec_text.specs.Lines.{Word, words}
 use Rattle.spec_text.proofs.Lists.{and_split, next_of, at_next, same_eq}
-use Rattle.read_fields.specs.FieldsModel.{field_at, refused, past, takes}
+use Rattle.read_fields.specs.FieldsModel.{field_at, past, takes}
 use Rattle.read_fields.specs.declared.Cursor.{Cursor}
 use Rattle.read_fields.proofs.Fields.{field_first}
-use Rattle.read_words.specs.WordsModel.{place, is_word, no_word, no_kind, kind_from, or_word}
+use Rattle.read_fields.proofs.Takes.{takes_facts, facts_take}
+use Rattle.read_words.specs.WordsModel.{place, is_word, no_word, kind_from, word_from}
 use Rattle.read_words.specs.declared.Kind.{Kind}
 use Rattle.read_words.proofs.Keys.{among, Unlike, unlike}
-use Rattle.read_fields.proofs.Takes.{takes_facts}
 use Rattle.read_words.proofs.WordPlaces.{word_at, some_bytes}
 
 -- ---- a field that has the bytes of a word
@@ -28,28 +21,14 @@ spelt n = (word_at n).spelling
 abbrev is : ℕ → Bytes → Cursor → Bool
 is n text c = takes (λ x. same x (spelt n)) text c
 
-pub word_taken : (t : Bool) (k : Kind) (n : ℕ) (p f : Cursor) → k.next.ok ≡ false → f ≡ cond t p refused → f.ok ≡ true
-    → record { kind = n; next = f } ≡ cond k.next.ok k (cond t (record { kind = n; next = p }) k)
-word_taken true k n p f h e o = ap (λ (c : Cursor). record { kind = n; next = c }) e ∙ ap (λ (b : Bool). cond b k (record { kind = n; next = p })) (sym h)
-word_taken false k n p f h e o = absurd (false≢true (sym (ap (λ (c : Cursor). c.ok) e) ∙ o))
-
-pub word_left : (t : Bool) (k : Kind) (n : ℕ) (p f : Cursor) → p.ok ≡ true → f ≡ cond t p refused → f.ok ≡ false
-    → k ≡ cond k.next.ok k (cond t (record { kind = n; next = p }) k)
-word_left true k n p f h e o = absurd (false≢true (sym o ∙ (ap (λ (c : Cursor). c.ok) e ∙ h)))
-word_left false k n p f h e o = go k.next.ok
-  where
-    go : (b : Bool) → k ≡ cond b k k
-    go true = refl
-    go false = refl
-
 -- the same field, by another test
 takes_too : (p q : Bytes → Bool) (text : Bytes) (c : Cursor) → takes p text c ≡ true → q (field_at text c.at) ≡ true → takes q text c ≡ true
-takes_too p q text c e h = let f = takes_facts p text c e in ap₂ ◌&&◌ f.0 (ap₂ ◌&&◌ f.1 (ap₂ ◌&&◌ h f.3))
+takes_too p q text c e h = let f = takes_facts p text c e in facts_take q text c (record { more = f.more; right = h; ended = f.ended })
 
--- ---- words tried one after the other, from none: the rows of those words, the last one first, and the kind then
-pub data Tried (text : Bytes) (c : Cursor) : List ℕ → Kind → Type 0 where
-  none : {k : Kind} → k ≡ no_kind → Tried text c [] k
-  or : (n : ℕ) {ns : List ℕ} {k l : Kind} → Tried text c ns k → l ≡ or_word k n (spelt n) text c → Tried text c (n ∷ ns) l
+-- ---- words tried one after the other: the rows of those words, the last one first, and the kind that is found
+pub data Tried (text : Bytes) (c : Cursor) : List ℕ → Option Kind → Type 0 where
+  none : Tried text c [] None
+  or : (n : ℕ) {ns : List ℕ} {k l : Option Kind} → Tried text c ns k → l ≡ option_or k (word_from n (spelt n) text c) → Tried text c (n ∷ ns) l
 
 -- row n is where the table has its spelling
 abbrev in_place : ℕ → Bool
@@ -65,12 +44,11 @@ listed ns b = all in_place ns && begun 0 words ns b
 
 module _ (text : Bytes) (c : Cursor) where
   -- the first of the words that the field is, or none of them
-  data Outcome (ns : List ℕ) : Kind → Type 0 where
-    found : (n : ℕ) → in_place n ≡ true → is n text c ≡ true → Outcome ns (record { kind = n; next = past text c.at })
-    nowhere : ((n : ℕ) → among ns n ≡ true → is n text c ≡ true → ⊥) → Outcome ns no_kind
+  data Outcome (ns : List ℕ) : Option Kind → Type 0 where
+    found : (n : ℕ) → in_place n ≡ true → is n text c ≡ true → Outcome ns (Some (record { kind = n; next = past text c.at }))
+    nowhere : ((n : ℕ) → among ns n ≡ true → is n text c ≡ true → ⊥) → Outcome ns None
 
-  one_more_lem : (n : ℕ) (ns : List ℕ) (k : Kind) → in_place n ≡ true → Outcome ns k → Outcome (n ∷ ns) (or_word k n (spelt n) text c)
-  unfolding or_word
+  one_more_lem : (n : ℕ) (ns : List ℕ) (k : Option Kind) → in_place n ≡ true → Outcome ns k → Outcome (n ∷ ns) (option_or k (word_from n (spelt n) text c))
   one_more_lem n ns k i (found m j e) = found m j e
   one_more_lem n ns k i (nowhere f) = go (is n text c) refl
     where
@@ -78,12 +56,12 @@ module _ (text : Bytes) (c : Cursor) where
       other m true q h e t = true≢false (sym t ∙ (ap (λ j. is j text c) (sym (eqb-true n m q)) ∙ h))
       other m false q h e t = f m e t
 
-      go : (t : Bool) → is n text c ≡ t → Outcome (n ∷ ns) (cond t (record { kind = n; next = past text c.at }) no_kind)
+      go : (t : Bool) → is n text c ≡ t → Outcome (n ∷ ns) (cond t (Some (record { kind = n; next = past text c.at })) None)
       go true h = found n i h
       go false h = nowhere (λ m e t. other m (eqb n m) refl h e t)
 
-  outcome : {ns : List ℕ} {k : Kind} → Tried text c ns k → all in_place ns ≡ true → Outcome ns k
-  outcome (none e) h = rw e (nowhere (λ n i t. false≢true i))
+  outcome : {ns : List ℕ} {k : Option Kind} → Tried text c ns k → all in_place ns ≡ true → Outcome ns k
+  outcome none h = nowhere (λ n i t. true≢false (sym i))
   outcome (or n {ns} {k} t e) h = let s = and_split (in_place n) (all in_place ns) h in rw e (one_more_lem n ns k s.0 (outcome t s.1))
 
 -- ---- the word's place
@@ -109,7 +87,7 @@ begun_at (suc i) n (w ∷ ws) ns b e h q =
     let r = begun_at i (suc n) ws ns b (and_split (cond (eqb (get_or w.spelling 0 0) b) (among ns n) true) _ e).1 (omega arith) q in
     rw add-suc (rw suc-add at r)
 
-pub by_letter : (ns : List ℕ) (text : Bytes) (c : Cursor) (k : Kind) → listed ns (get_or text c.at 0) ≡ true → Tried text c ns k → k ≡ kind_from text c
+pub by_letter : (ns : List ℕ) (text : Bytes) (c : Cursor) (k : Option Kind) → listed ns (get_or text c.at 0) ≡ true → Tried text c ns k → k ≡ kind_from text c
 unfolding kind_from
 by_letter ns text c k e t = go k (outcome text c t parts.0)
   where
@@ -122,8 +100,8 @@ by_letter ns text c k e t = go k (outcome text c t parts.0)
     parts : (all in_place ns ≡ true) × (begun 0 words ns b ≡ true)
     parts = and_split (all in_place ns) (begun 0 words ns b) e
 
-    at_place : ℕ → Kind
-    at_place n = record { kind = n; next = past text c.at }
+    at_place : ℕ → Option Kind
+    at_place n = Some (record { kind = n; next = past text c.at })
 
     -- a word of the table begins with b, so it is among those that are tried
     tried_too : (m : ℕ) → m < length words → same x (spelt m) ≡ true → among ns m ≡ true
@@ -133,21 +111,21 @@ by_letter ns text c k e t = go k (outcome text c t parts.0)
         rw zero-add at (begun_at m 0 words ns b parts.1 h f)
 
     missing : (t : Bool) → takes is_word text c ≡ t → ((n : ℕ) → among ns n ≡ true → is n text c ≡ true → ⊥)
-        → no_kind ≡ cond t (at_place (place 0 words x)) no_kind
+        → None ≡ cond t (at_place (place 0 words x)) None
     missing false h f = refl
     missing true h f =
         let m : ℕ = place 0 words x in
-        let l : m < length words = ltb-true m (length words) (takes_facts is_word text c h).2 in
+        let l : m < length words = ltb-true m (length words) (takes_facts is_word text c h).right in
         let s : same x (spelt m) ≡ true = place_same 0 words words x refl l in
         absurd (f m (tried_too m l s) (takes_too is_word (λ x. same x (spelt m)) text c h s))
 
-    go : (k : Kind) → Outcome text c ns k → k ≡ kind_from text c
-    go k (found n i t) =
+    go : (k : Option Kind) → Outcome text c ns k → k ≡ kind_from text c
+    go _ (found n i t) =
         let w = and_split (ltb n (length words)) _ i in
-        let p : place 0 words x ≡ n = ap (place 0 words) (same_eq x (spelt n) (takes_facts (λ x. same x (spelt n)) text c t).2) ∙ eqb-true _ _ w.1 in
+        let p : place 0 words x ≡ n = ap (place 0 words) (same_eq x (spelt n) (takes_facts (λ x. same x (spelt n)) text c t).right) ∙ eqb-true _ _ w.1 in
         let h : takes is_word text c ≡ true = takes_too (λ x. same x (spelt n)) is_word text c t (ap (λ m. ltb m (length words)) p ∙ w.0) in
-        sym (ap (λ t. cond t (at_place (place 0 words x)) no_kind) h ∙ ap at_place p)
-    go k (nowhere f) = missing (takes is_word text c) refl f
+        sym (ap (λ t. cond t (at_place (place 0 words x)) None) h ∙ ap at_place p)
+    go _ (nowhere f) = missing (takes is_word text c) refl f
 
 -- ---- a byte that no word begins with
 -- each word begins with one of these bytes

@@ -1,10 +1,6 @@
 -- What holds of each number within bounds holds of any: one by one.
-use Prim.Native.Nat.{ℕ, zero, suc, ◌+◌, ◌≤◌, ◌<◌}
-use native.Mathlib.Omega.{arith}
-use mathlib.Core.Path.{◌≡◌, refl, sym, subst}
-use mathlib.Core.Bool.{Bool, true, false}
-use lib.Dec.{eqb}
-use borrow.Author.Tests.{eqb-true, eqb-false}
+use Rattle.std.proofs.Common.{◌≡◌, refl, sym, subst, Bool, true, false, ℕ, zero, suc, ◌+◌, ◌≤◌, ◌<◌, arith, eqb, eqb-true}
+use borrow.Author.Tests.{eqb-false}
 
 -- what holds of each of n numbers, from one on
 abbrev pub From : (ℕ → Type 0) → ℕ → ℕ → Type 0

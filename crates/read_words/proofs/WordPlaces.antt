@@ -1,18 +1,13 @@
 -- Words by their place: the table's line of a word is that of the row at the word's place, and there is none past the end (`line_placed`).
 -- No row has more than three counts (`few_counts`), and none an empty word (`some_bytes`).
-use mathlib.Core.Path.{◌≡◌, refl, ap}
-use mathlib.Core.Bool.{Bool, true, false, cond}
-use mathlib.Core.List.{List, [], ◌∷◌}
-use mathlib.Core.Option.{Option, none, some}
-use Prim.Native.Nat.{ℕ, suc, ◌<◌, ◌≤◌}
-use native.Mathlib.Omega.{arith}
-use lib.Dec.{leb, ltb}
-use lib.ListN.{length, get_or, drop, get_elem?, length-drop}
-use borrow.Author.Tests.{lt-ltb, le-ltb, leb-true, ltb-true}
+use Rattle.std.proofs.Common.{◌≡◌, refl, sym, ap, Bool, true, false, cond, List, [], ◌∷◌, ℕ, suc, ◌<◌, ◌≤◌, arith, leb, ltb, length, get_or, drop, length-drop, lt-ltb, le-ltb, leb-true, ltb-true}
+use Rattle.std.proofs.Math.ListN.{get_elem?, get_or-eq_default}
+use Rattle.std.proofs.Math.Option.{Option, none, some}
 use Rattle.spec_text.specs.Bytes.{Bytes, Part, same}
-use Rattle.spec_text.specs.Lines.{Word, words, Parsed, well_formed, parsed, line_of}
+use Rattle.spec_text.specs.Lines.{Form, Word, words, sort_of, Parsed, well_formed, parsed, line_of}
 use Rattle.spec_text.proofs.Lists.{next_of, at_next, test_at}
-use Rattle.read_words.specs.WordsModel.{place, is_word, no_word}
+use Rattle.read_words.specs.WordsModel.{place, is_word, no_word, of_word, shape_of, sort_in}
+use Rattle.spec_text.specs.Numbers.{sort_number}
 
 -- the word in row k
 abbrev pub word_at : ℕ → Word
@@ -44,3 +39,18 @@ few_counts k h = leb-true (word_at k).counts 3 (test_at (λ (w : Word). leb w.co
 
 pub some_bytes : (k : ℕ) → k < length words → 0 < length (word_at k).spelling
 some_bytes k h = ltb-true 0 (length (word_at k).spelling) (test_at (λ (w : Word). ltb 0 (length w.spelling)) words k no_word refl h)
+
+-- past the last row there is no word
+pub shape_past : (k : ℕ) → 29 ≤ k → of_word no_word ≡ shape_of k
+unfolding shape_of
+shape_past k l = ap of_word (sym (get_or-eq_default words no_word l))
+
+-- the sort of a form has the number that the table says
+pub sort_in_number : (f : Form) → sort_number (sort_in f) ≡ sort_of f
+sort_in_number Form.tree = refl
+sort_in_number Form.global = refl
+sort_in_number Form.elif = refl
+sort_in_number Form.method = refl
+sort_in_number Form.attr = refl
+sort_in_number (Form.stmt f) = refl
+sort_in_number (Form.expr f) = refl

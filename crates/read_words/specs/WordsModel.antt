@@ -1,8 +1,10 @@
 -- The words of the table, as a cursor meets one: its place in the table, and the shape of its line.
-use Rattle.std.specs.Prelude.{ℕ, suc, Bool, true, false, cond, List, [], ◌∷◌, ltb, length, get_or}
+use Rattle.std.specs.Prelude.{ℕ, suc, Bool, true, false, cond, List, [], ◌∷◌, ltb, length, get_or, Option, Some, None}
 use Rattle.spec_text.specs.Bytes.{Bytes, same}
-use Rattle.spec_text.specs.Lines.{Word, words, Form, sort_of}
-use Rattle.read_fields.specs.FieldsModel.{field_at, refused, past, takes}
+use Rattle.spec_text.specs.Lines.{Word, words, Form}
+use Rattle.spec_text.specs.declared.sort.Sort.{Sort}
+use Rattle.spec_text.specs.declared.sort.Sort.TheVariants as Sorts
+use Rattle.read_fields.specs.FieldsModel.{field_at, past, takes}
 use Rattle.read_fields.specs.declared.Cursor.{Cursor}
 use Rattle.read_words.specs.declared.Kind.{Kind}
 use Rattle.read_words.specs.declared.Shape.{Shape}
@@ -16,22 +18,29 @@ place n (w ∷ ws) x = elim (same x w.spelling) [ true ↦ n | false ↦ place (
 abbrev pub is_word : Bytes → Bool
 is_word x = ltb (place 0 words x) (length words)
 
-abbrev pub no_kind : Kind
-no_kind = record { kind = length words; next = refused }
+unfoldable pub kind_from : Bytes → Cursor → Option Kind
+kind_from text c = cond (takes is_word text c) (Some (record { kind = place 0 words (field_at text c.at); next = past text c.at })) None
 
-unfoldable pub kind_from : Bytes → Cursor → Kind
-kind_from text c = cond (takes is_word text c) (record { kind = place 0 words (field_at text c.at); next = past text c.at }) no_kind
-
--- a kind that was found before, else kind n where the field has the bytes of the word
-unfoldable pub or_word : Kind → ℕ → Bytes → Bytes → Cursor → Kind
-or_word k n word text c = cond k.next.ok k (cond (takes (λ x. same x word) text c) (record { kind = n; next = past text c.at }) k)
+-- kind n, where the field has the bytes of the word
+abbrev pub word_from : ℕ → Bytes → Bytes → Cursor → Option Kind
+word_from n word text c = cond (takes (λ x. same x word) text c) (Some (record { kind = n; next = past text c.at })) None
 
 -- ---- the shape of its line, by the table
 abbrev pub no_word : Word
 no_word = record { spelling = []; spanned = false; named = false; counts = 0; params = false; form = Form.tree }
 
+-- the sort of a form, numbered by `sort_of`
+abbrev pub sort_in : Form → Sort
+sort_in Form.tree = Sorts.Tree
+sort_in Form.global = Sorts.Global
+sort_in Form.elif = Sorts.Elif
+sort_in Form.method = Sorts.Method
+sort_in Form.attr = Sorts.Attr
+sort_in (Form.stmt f) = Sorts.Stmt
+sort_in (Form.expr f) = Sorts.Expr
+
 abbrev pub of_word : Word → Shape
-of_word w = record { spanned = w.spanned; named = w.named; counts = w.counts; params = w.params; sort = sort_of w.form }
+of_word w = record { spanned = w.spanned; named = w.named; counts = w.counts; params = w.params; sort = sort_in w.form }
 
 unfoldable pub shape_of : ℕ → Shape
 shape_of k = of_word (get_or words k no_word)

@@ -2,11 +2,11 @@
 #![tactic(auto)]
 
 ghost use Rattle.std.specs.Prelude.{◌≡◌, ◌<◌};
-ghost use Rattle.read_words.specs.WordsModel.{no_kind, kind_from, or_word, shape_of};
+ghost use Rattle.read_words.specs.WordsModel.{kind_from, word_from, shape_of};
 ghost use Rattle.read_words.specs.ChildrenModel.{children_by};
 
 use read_fields::Cursor;
-use spec_text::{line_kind, sort};
+use spec_text::{Sort, line_kind};
 
 // A word's place in the table.
 #[derive(Clone, Copy)]
@@ -22,7 +22,7 @@ pub struct Shape {
     pub named: bool,
     pub counts: usize,
     pub params: bool,
-    pub sort: usize,
+    pub sort: Sort,
 }
 
 // How many lines of each sort are due below a line, in their order.
@@ -36,140 +36,128 @@ pub struct Children {
     pub attrs: usize,
 }
 
-// The kind that was found before, else the kind n where the field has the bytes of the word.
-fn or_word(k: Kind, n: usize, c: Cursor, text: &[u8], word: &[u8]) -> Kind
-    ensures { result ≡ or_word k n word.now text.now c }
+// The kind of a word, where the field at the cursor has the bytes of the word.
+fn word(text: &[u8], c: Cursor, kind: usize, word: &[u8]) -> Option<Kind>
+    ensures { result ≡ word_from kind word.now text.now c }
 {
-    if k.next.ok {
-        return k;
-    }
-    let next = c.field(text, word);
-    if next.ok {
-        return Kind {
-            kind: n,
-            next: next,
-        };
-    }
-    k
-}
-
-fn no_kind() -> Kind
-    ensures { result ≡ no_kind }
-{
-    Kind {
-        kind: line_kind::COUNT, // none
-        next: read_fields::refused_cursor(),
-    }
+    c.field(text, word).map(|next| Kind { kind, next })
 }
 
 // The kind of a line by its first field. The first byte says which words it can be.
-pub fn kind_of(text: &[u8], c: Cursor) -> Kind
+pub fn kind_of(text: &[u8], c: Cursor) -> Option<Kind>
     ensures { result ≡ kind_from text.now c }
 {
-    let none = no_kind();
     match read_bytes::byte_at(text, c.at) {
-        b'a' => {
-            let k = or_word(none, line_kind::ASSIGN, c, text, b"assign");
-            or_word(k, line_kind::ATTR, c, text, b"attr")
-        }
-        b'b' => {
-            let k = or_word(none, line_kind::BIN, c, text, b"bin");
-            or_word(k, line_kind::BREAK, c, text, b"break")
-        }
-        b'c' => {
-            let k = or_word(none, line_kind::CALL, c, text, b"call");
-            let k = or_word(k, line_kind::CLASS, c, text, b"class");
-            or_word(k, line_kind::CONTINUE, c, text, b"continue")
-        }
-        b'd' => {
-            let k = or_word(none, line_kind::DEF, c, text, b"def");
-            or_word(k, line_kind::DICT, c, text, b"dict")
-        }
-        b'e' => {
-            let k = or_word(none, line_kind::EXPR, c, text, b"expr");
-            or_word(k, line_kind::ELIF, c, text, b"elif")
-        }
-        b'f' => or_word(none, line_kind::FOR, c, text, b"for"),
-        b'g' => {
-            let k = or_word(none, line_kind::GET, c, text, b"get");
-            or_word(k, line_kind::GLOBAL, c, text, b"global")
-        }
-        b'i' => {
-            let k = or_word(none, line_kind::IF, c, text, b"if");
-            or_word(k, line_kind::INDEX, c, text, b"index")
-        }
-        b'l' => {
-            let k = or_word(none, line_kind::LIT, c, text, b"lit");
-            let k = or_word(k, line_kind::LIST, c, text, b"list");
-            or_word(k, line_kind::LAMBDA, c, text, b"lambda")
-        }
-        b'm' => or_word(none, line_kind::METHOD, c, text, b"method"),
-        b'p' => or_word(none, line_kind::PASS, c, text, b"pass"),
-        b'r' => or_word(none, line_kind::RETURN, c, text, b"return"),
-        b's' => or_word(none, line_kind::SET, c, text, b"set"),
-        b't' => {
-            let k = or_word(none, line_kind::TUPLE, c, text, b"tuple");
-            let k = or_word(k, line_kind::TREE, c, text, b"tree");
-            or_word(k, line_kind::TREESET, c, text, b"treeset")
-        }
-        b'u' => or_word(none, line_kind::UN, c, text, b"un"),
-        b'v' => or_word(none, line_kind::VAR, c, text, b"var"),
-        b'w' => or_word(none, line_kind::WHILE, c, text, b"while"),
-        _ => none,
+        b'a' => word(text, c, line_kind::ASSIGN, b"assign").or_else(|| word(
+            text,
+            c,
+            line_kind::ATTR,
+            b"attr",
+        )),
+        b'b' => word(text, c, line_kind::BIN, b"bin").or_else(|| word(
+            text,
+            c,
+            line_kind::BREAK,
+            b"break",
+        )),
+        b'c' => word(text, c, line_kind::CALL, b"call")
+            .or_else(|| word(text, c, line_kind::CLASS, b"class"))
+            .or_else(|| word(text, c, line_kind::CONTINUE, b"continue")),
+        b'd' => word(text, c, line_kind::DEF, b"def").or_else(|| word(
+            text,
+            c,
+            line_kind::DICT,
+            b"dict",
+        )),
+        b'e' => word(text, c, line_kind::EXPR, b"expr").or_else(|| word(
+            text,
+            c,
+            line_kind::ELIF,
+            b"elif",
+        )),
+        b'f' => word(text, c, line_kind::FOR, b"for"),
+        b'g' => word(text, c, line_kind::GET, b"get").or_else(|| word(
+            text,
+            c,
+            line_kind::GLOBAL,
+            b"global",
+        )),
+        b'i' => word(text, c, line_kind::IF, b"if").or_else(|| word(
+            text,
+            c,
+            line_kind::INDEX,
+            b"index",
+        )),
+        b'l' => word(text, c, line_kind::LIT, b"lit")
+            .or_else(|| word(text, c, line_kind::LIST, b"list"))
+            .or_else(|| word(text, c, line_kind::LAMBDA, b"lambda")),
+        b'm' => word(text, c, line_kind::METHOD, b"method"),
+        b'p' => word(text, c, line_kind::PASS, b"pass"),
+        b'r' => word(text, c, line_kind::RETURN, b"return"),
+        b's' => word(text, c, line_kind::SET, b"set"),
+        b't' => word(text, c, line_kind::TUPLE, b"tuple")
+            .or_else(|| word(text, c, line_kind::TREE, b"tree"))
+            .or_else(|| word(text, c, line_kind::TREESET, b"treeset")),
+        b'u' => word(text, c, line_kind::UN, b"un"),
+        b'v' => word(text, c, line_kind::VAR, b"var"),
+        b'w' => word(text, c, line_kind::WHILE, b"while"),
+        _ => None,
     }
 }
 
-fn row(spanned: bool, named: bool, counts: usize, params: bool, sort: usize) -> Shape
+fn row(spanned: bool, named: bool, counts: usize, params: bool, sort: Sort) -> Shape
     ensures { result ≡ record { spanned = spanned; named = named; counts = counts; params = params; sort = sort } }
 {
     Shape {
-        spanned: spanned,
-        named: named,
-        counts: counts,
-        params: params,
-        sort: sort,
+        spanned,
+        named,
+        counts,
+        params,
+        sort,
     }
 }
 
 // The row of the table.
+#[tactic(auto, unfolding(crate::specs::WordsModel::shape_of))]
 pub fn shape_of(kind: usize) -> Shape
     ensures { result ≡ shape_of kind }
 {
     match kind {
-        line_kind::TREE => row(false, false, 2, false, sort::TREE),
-        line_kind::GLOBAL => row(false, true, 0, false, sort::GLOBAL),
-        line_kind::BREAK => row(true, false, 0, false, sort::STMT),
-        line_kind::CONTINUE => row(true, false, 0, false, sort::STMT),
-        line_kind::PASS => row(true, false, 0, false, sort::STMT),
-        line_kind::DEF => row(true, true, 1, true, sort::STMT),
-        line_kind::ASSIGN => row(true, false, 0, false, sort::STMT),
-        line_kind::IF => row(true, false, 3, false, sort::STMT),
-        line_kind::ELIF => row(false, false, 1, false, sort::ELIF),
-        line_kind::WHILE => row(true, false, 1, false, sort::STMT),
-        line_kind::FOR => row(true, true, 1, false, sort::STMT),
-        line_kind::RETURN => row(true, false, 0, false, sort::STMT),
-        line_kind::EXPR => row(true, false, 0, false, sort::STMT),
-        line_kind::CLASS => row(true, true, 2, false, sort::STMT),
-        line_kind::METHOD => row(false, true, 1, true, sort::METHOD),
-        line_kind::ATTR => row(false, true, 0, false, sort::ATTR),
-        line_kind::LIT => row(true, false, 0, false, sort::EXPR),
-        line_kind::VAR => row(true, true, 0, false, sort::EXPR),
-        line_kind::UN => row(true, false, 0, false, sort::EXPR),
-        line_kind::BIN => row(true, false, 0, false, sort::EXPR),
-        line_kind::INDEX => row(true, false, 0, false, sort::EXPR),
-        line_kind::CALL => row(true, false, 1, false, sort::EXPR),
-        line_kind::GET => row(true, true, 0, false, sort::EXPR),
-        line_kind::LIST => row(true, false, 1, false, sort::EXPR),
-        line_kind::TUPLE => row(true, false, 1, false, sort::EXPR),
-        line_kind::SET => row(true, false, 1, false, sort::EXPR),
-        line_kind::TREESET => row(true, false, 1, false, sort::EXPR),
-        line_kind::DICT => row(true, false, 1, false, sort::EXPR),
-        line_kind::LAMBDA => row(true, false, 0, true, sort::EXPR),
-        _ => row(false, false, 0, false, sort::TREE),
+        line_kind::TREE => row(false, false, 2, false, Sort::Tree),
+        line_kind::GLOBAL => row(false, true, 0, false, Sort::Global),
+        line_kind::BREAK => row(true, false, 0, false, Sort::Stmt),
+        line_kind::CONTINUE => row(true, false, 0, false, Sort::Stmt),
+        line_kind::PASS => row(true, false, 0, false, Sort::Stmt),
+        line_kind::DEF => row(true, true, 1, true, Sort::Stmt),
+        line_kind::ASSIGN => row(true, false, 0, false, Sort::Stmt),
+        line_kind::IF => row(true, false, 3, false, Sort::Stmt),
+        line_kind::ELIF => row(false, false, 1, false, Sort::Elif),
+        line_kind::WHILE => row(true, false, 1, false, Sort::Stmt),
+        line_kind::FOR => row(true, true, 1, false, Sort::Stmt),
+        line_kind::RETURN => row(true, false, 0, false, Sort::Stmt),
+        line_kind::EXPR => row(true, false, 0, false, Sort::Stmt),
+        line_kind::CLASS => row(true, true, 2, false, Sort::Stmt),
+        line_kind::METHOD => row(false, true, 1, true, Sort::Method),
+        line_kind::ATTR => row(false, true, 0, false, Sort::Attr),
+        line_kind::LIT => row(true, false, 0, false, Sort::Expr),
+        line_kind::VAR => row(true, true, 0, false, Sort::Expr),
+        line_kind::UN => row(true, false, 0, false, Sort::Expr),
+        line_kind::BIN => row(true, false, 0, false, Sort::Expr),
+        line_kind::INDEX => row(true, false, 0, false, Sort::Expr),
+        line_kind::CALL => row(true, false, 1, false, Sort::Expr),
+        line_kind::GET => row(true, true, 0, false, Sort::Expr),
+        line_kind::LIST => row(true, false, 1, false, Sort::Expr),
+        line_kind::TUPLE => row(true, false, 1, false, Sort::Expr),
+        line_kind::SET => row(true, false, 1, false, Sort::Expr),
+        line_kind::TREESET => row(true, false, 1, false, Sort::Expr),
+        line_kind::DICT => row(true, false, 1, false, Sort::Expr),
+        line_kind::LAMBDA => row(true, false, 0, true, Sort::Expr),
+        _ => row(false, false, 0, false, Sort::Tree),
     }
 }
 
 // The lines due below a line of a kind, by its counts.
+#[tactic(auto, unfolding(crate::specs::ChildrenModel::children_by))]
 pub fn children_of(kind: usize, a: usize, b: usize, c: usize) -> Children
     requires { a < 4294967296 }
     ensures { result ≡ children_by kind a b c }
@@ -206,11 +194,11 @@ fn each(
     ensures { result ≡ record { exprs = exprs; stmts = stmts; elifs = elifs; others = others; methods = methods; attrs = attrs } }
 {
     Children {
-        exprs: exprs,
-        stmts: stmts,
-        elifs: elifs,
-        others: others,
-        methods: methods,
-        attrs: attrs,
+        exprs,
+        stmts,
+        elifs,
+        others,
+        methods,
+        attrs,
     }
 }

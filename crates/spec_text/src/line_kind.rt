@@ -1,4 +1,5 @@
 // Kinds of lines: the place of a line's word in the table of specs/Lines.
+// Kept: kinds stay numbers, since a form that was asked for matches on the kind number (docs/DECISIONS.md).
 pub const TREE: usize = 0;
 
 pub const GLOBAL: usize = 1;

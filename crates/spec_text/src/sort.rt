@@ -17,8 +17,9 @@ pub const STMT: usize = 5;
 pub const EXPR: usize = 6;
 
 // Where a line is due.
-#[derive(Clone, Copy, PartialEq, Eq)]
+#[derive(Clone, Copy, PartialEq, Eq, Default)]
 pub enum Sort {
+    #[default]
     Tree,
     Global,
     Elif,

@@ -1,5 +1,5 @@
 -- Each arm tries the words that begin with its byte, and the last has none to try.
-use Rattle.std.proofs.Common.{arith, ◌≡◌, refl, sym, ap, ◌∙◌, ℕ, List, [], true, get_or}
+use Rattle.std.proofs.Common.{arith, ◌≡◌, refl, sym, ap, ◌∙◌, ℕ, List, [], true, get_or, rules, Option}
 use Rattle.spec_text.specs.Bytes.{Bytes, bytes}
 use Rattle.read_fields.specs.declared.Cursor.{Cursor}
 use Rattle.read_words.specs.WordsModel.{kind_from}
@@ -9,79 +9,79 @@ use Rattle.read_words.proofs.Letters.{Tried, none, or, listed, by_letter, no_let
 use Rattle.read_words.proofs.kind_of.Goals as goal
 
 -- the byte is b, and the words that begin with b were tried
-arm : (s : Bytes) (d : Cursor) {x b : ℕ} {ns : List ℕ} {k : Kind} → x ≡ get_or s d.at 0 → x ≡ b → listed ns b ≡ true → Tried s d ns k → k ≡ kind_from s d
+arm : (s : Bytes) (d : Cursor) {x b : ℕ} {ns : List ℕ} {k : Option Kind} → x ≡ get_or s d.at 0 → x ≡ b → listed ns b ≡ true → Tried s d ns k → k ≡ kind_from s d
 arm s d {ns = ns} {k = k} a e h t = by_letter ns s d k (ap (listed ns) (sym a ∙ e) ∙ h) t
 
 -- 'a'
 pub returns-in-97 : goal.returns-in-97
-returns-in-97 c = arm c.args.text.now c.args.c c.byte_at.ensures c.in-97.is refl (or 15 (or 6 (none c.no_kind-none.ensures) c.or_word-k.ensures) c.or_word.ensures)
+returns-in-97 c = arm c.args.text.now c.args.c c.byte_at.ensures c.in-97.is refl (or 15 (or 6 none c.word.ensures) (search rules))
 
 -- 'b'
 pub returns-in-98 : goal.returns-in-98
-returns-in-98 c = arm c.args.text.now c.args.c c.byte_at.ensures c.in-98.is refl (or 2 (or 19 (none c.no_kind-none.ensures) c.or_word-k-in-98.ensures) c.or_word-in-98.ensures)
+returns-in-98 c = arm c.args.text.now c.args.c c.byte_at.ensures c.in-98.is refl (or 2 (or 19 none c.word-in-98.ensures) (search rules))
 
 -- 'c'
 pub returns-in-99 : goal.returns-in-99
-returns-in-99 c = arm c.args.text.now c.args.c c.byte_at.ensures c.in-99.is refl (or 3 (or 13 (or 21 (none c.no_kind-none.ensures) c.or_word-k-in-99.ensures) c.or_word-k-in-99-2.ensures) c.or_word-in-99.ensures)
+returns-in-99 c = arm c.args.text.now c.args.c c.byte_at.ensures c.in-99.is refl (or 3 {k = c.or_else-in-99.result} (or 13 (or 21 none c.word-in-99.ensures) (search rules)) (search rules))
 
 -- 'd'
 pub returns-in-100 : goal.returns-in-100
-returns-in-100 c = arm c.args.text.now c.args.c c.byte_at.ensures c.in-100.is refl (or 27 (or 5 (none c.no_kind-none.ensures) c.or_word-k-in-100.ensures) c.or_word-in-100.ensures)
+returns-in-100 c = arm c.args.text.now c.args.c c.byte_at.ensures c.in-100.is refl (or 27 (or 5 none c.word-in-100.ensures) (search rules))
 
 -- 'e'
 pub returns-in-101 : goal.returns-in-101
-returns-in-101 c = arm c.args.text.now c.args.c c.byte_at.ensures c.in-101.is refl (or 8 (or 12 (none c.no_kind-none.ensures) c.or_word-k-in-101.ensures) c.or_word-in-101.ensures)
+returns-in-101 c = arm c.args.text.now c.args.c c.byte_at.ensures c.in-101.is refl (or 8 (or 12 none c.word-in-101.ensures) (search rules))
 
 -- 'f'
 pub returns-in-102 : goal.returns-in-102
-returns-in-102 c = arm c.args.text.now c.args.c c.byte_at.ensures c.in-102.is refl (or 10 (none c.no_kind-none.ensures) c.or_word-in-102.ensures)
+returns-in-102 c = arm c.args.text.now c.args.c c.byte_at.ensures c.in-102.is refl (or 10 none c.word-in-102.ensures)
 
 -- 'g'
 pub returns-in-103 : goal.returns-in-103
-returns-in-103 c = arm c.args.text.now c.args.c c.byte_at.ensures c.in-103.is refl (or 1 (or 22 (none c.no_kind-none.ensures) c.or_word-k-in-103.ensures) c.or_word-in-103.ensures)
+returns-in-103 c = arm c.args.text.now c.args.c c.byte_at.ensures c.in-103.is refl (or 1 (or 22 none c.word-in-103.ensures) (search rules))
 
 -- 'i'
 pub returns-in-105 : goal.returns-in-105
-returns-in-105 c = arm c.args.text.now c.args.c c.byte_at.ensures c.in-105.is refl (or 20 (or 7 (none c.no_kind-none.ensures) c.or_word-k-in-105.ensures) c.or_word-in-105.ensures)
+returns-in-105 c = arm c.args.text.now c.args.c c.byte_at.ensures c.in-105.is refl (or 20 (or 7 none c.word-in-105.ensures) (search rules))
 
 -- 'l'
 pub returns-in-108 : goal.returns-in-108
-returns-in-108 c = arm c.args.text.now c.args.c c.byte_at.ensures c.in-108.is refl (or 28 (or 23 (or 16 (none c.no_kind-none.ensures) c.or_word-k-in-108.ensures) c.or_word-k-in-108-2.ensures) c.or_word-in-108.ensures)
+returns-in-108 c = arm c.args.text.now c.args.c c.byte_at.ensures c.in-108.is refl (or 28 {k = c.or_else-in-108.result} (or 23 (or 16 none c.word-in-108.ensures) (search rules)) (search rules))
 
 -- 'm'
 pub returns-in-109 : goal.returns-in-109
-returns-in-109 c = arm c.args.text.now c.args.c c.byte_at.ensures c.in-109.is refl (or 14 (none c.no_kind-none.ensures) c.or_word-in-109.ensures)
+returns-in-109 c = arm c.args.text.now c.args.c c.byte_at.ensures c.in-109.is refl (or 14 none c.word-in-109.ensures)
 
 -- 'p'
 pub returns-in-112 : goal.returns-in-112
-returns-in-112 c = arm c.args.text.now c.args.c c.byte_at.ensures c.in-112.is refl (or 4 (none c.no_kind-none.ensures) c.or_word-in-112.ensures)
+returns-in-112 c = arm c.args.text.now c.args.c c.byte_at.ensures c.in-112.is refl (or 4 none c.word-in-112.ensures)
 
 -- 'r'
 pub returns-in-114 : goal.returns-in-114
-returns-in-114 c = arm c.args.text.now c.args.c c.byte_at.ensures c.in-114.is refl (or 11 (none c.no_kind-none.ensures) c.or_word-in-114.ensures)
+returns-in-114 c = arm c.args.text.now c.args.c c.byte_at.ensures c.in-114.is refl (or 11 none c.word-in-114.ensures)
 
 -- 's'
 pub returns-in-115 : goal.returns-in-115
-returns-in-115 c = arm c.args.text.now c.args.c c.byte_at.ensures c.in-115.is refl (or 25 (none c.no_kind-none.ensures) c.or_word-in-115.ensures)
+returns-in-115 c = arm c.args.text.now c.args.c c.byte_at.ensures c.in-115.is refl (or 25 none c.word-in-115.ensures)
 
 -- 't'
 pub returns-in-116 : goal.returns-in-116
-returns-in-116 c = arm c.args.text.now c.args.c c.byte_at.ensures c.in-116.is refl (or 26 (or 0 (or 24 (none c.no_kind-none.ensures) c.or_word-k-in-116.ensures) c.or_word-k-in-116-2.ensures) c.or_word-in-116.ensures)
+returns-in-116 c = arm c.args.text.now c.args.c c.byte_at.ensures c.in-116.is refl (or 26 {k = c.or_else-in-116.result} (or 0 (or 24 none c.word-in-116.ensures) (search rules)) (search rules))
 
 -- 'u'
 pub returns-in-117 : goal.returns-in-117
-returns-in-117 c = arm c.args.text.now c.args.c c.byte_at.ensures c.in-117.is refl (or 18 (none c.no_kind-none.ensures) c.or_word-in-117.ensures)
+returns-in-117 c = arm c.args.text.now c.args.c c.byte_at.ensures c.in-117.is refl (or 18 none c.word-in-117.ensures)
 
 -- 'v'
 pub returns-in-118 : goal.returns-in-118
-returns-in-118 c = arm c.args.text.now c.args.c c.byte_at.ensures c.in-118.is refl (or 17 (none c.no_kind-none.ensures) c.or_word-in-118.ensures)
+returns-in-118 c = arm c.args.text.now c.args.c c.byte_at.ensures c.in-118.is refl (or 17 none c.word-in-118.ensures)
 
 -- 'w'
 pub returns-in-119 : goal.returns-in-119
-returns-in-119 c = arm c.args.text.now c.args.c c.byte_at.ensures c.in-119.is refl (or 9 (none c.no_kind-none.ensures) c.or_word-in-119.ensures)
+returns-in-119 c = arm c.args.text.now c.args.c c.byte_at.ensures c.in-119.is refl (or 9 none c.word-in-119.ensures)
 
 -- any other byte
 pub returns-in_default : goal.returns-in_default
 returns-in_default c =
     let u : Unlike (bytes "wvutsrpmligfedcba") c.byte_at.result = (((((((((((((((((tt, λ e. omega arith), λ e. omega arith), λ e. omega arith), λ e. omega arith), λ e. omega arith), λ e. omega arith), λ e. omega arith), λ e. omega arith), λ e. omega arith), λ e. omega arith), λ e. omega arith), λ e. omega arith), λ e. omega arith), λ e. omega arith), λ e. omega arith), λ e. omega arith), λ e. omega arith) in
-    by_letter [] c.args.text.now c.args.c c.no_kind-none.result (ap (listed []) (sym c.byte_at.ensures) ∙ no_letter (bytes "wvutsrpmligfedcba") c.byte_at.result refl u) (none c.no_kind-none.ensures)
+    by_letter [] c.args.text.now c.args.c _ (ap (listed []) (sym c.byte_at.ensures) ∙ no_letter (bytes "wvutsrpmligfedcba") c.byte_at.result refl u) none
