@@ -1,15 +1,6 @@
 -- `cut` by fields: the fields of a line are the one at its offset and those that come after the byte that ends it (`unroll`).
--- A cursor that is not refused stands before the fields that are still to come (`to_come`).
-use mathlib.Core.Path.{◌≡◌, refl, sym, subst}
-use mathlib.Core.Bool.{Bool, true, false, cond}
-use mathlib.Core.List.{[], ◌∷◌}
-use Prim.Native.Nat.{ℕ, suc, ◌+◌}
-use native.Mathlib.Nat.{add-zero, add-suc, suc-add}
-use native.Mathlib.Numerals.{add-one}
-use lib.Dec.{eqb}
-use lib.ListN.{length, get_or, drop}
-use lib.Seq.{drop-drop, get_or-drop}
-use borrow.Author.Tests.{eqb-true}
+-- A cursor stands before the fields that are still to come (`to_come`).
+use Rattle.std.proofs.Common.{◌≡◌, refl, Bool, true, false, cond, [], ◌∷◌, ℕ, suc, ◌+◌, add-zero, add-suc, suc-add, add-one, eqb, eqb-true, length, get_or, drop, drop-drop, get_or-drop}
 use Rattle.spec_text.specs.Bytes.{Bytes, Part}
 use Rattle.spec_text.specs.Lines.{Cut, cut}
 use Rattle.read_fields.specs.FieldsModel.{field, field_at, end_of, end_byte, past}
@@ -62,7 +53,3 @@ pub unroll : (text : Bytes) (at : ℕ)
 unroll text at =
     let n : ℕ = end_of text at in
     rw (cut_split at (drop at text), drop-drop (length (field_at text at)) at text, get_or-drop n text 0 0, add-zero, drop-drop 1 n text, add-one)
-
--- what holds at each cursor that is not refused
-pub where_ok : (P : Cursor → Type 0) → ((at : ℕ) (more : Bool) → P (record { at = at; more = more; ok = true })) → (c : Cursor) → c.ok ≡ true → P c
-where_ok P f c h = subst (λ (t : Bool). P (record { at = c.at; more = c.more; ok = t })) (sym h) (f c.at c.more)

@@ -1,17 +1,11 @@
 -- A word's line by rows of fields: its fields are right where they begin with its span, then its name, its counts, and what is left are
 -- its parameters (`formed_rows`); what the table reads of them stands in those rows (`parsed_rows`).
-use mathlib.Core.Path.{◌≡◌, refl, sym, ap, ap₂}
-use mathlib.Core.Bool.{Bool, true, false, cond, ◌&&◌, false≢true}
-use mathlib.Core.List.{List, [], ◌∷◌, map}
-use Prim.Native.Nat.{ℕ, zero, suc, ◌+◌, ◌≤◌, ◌<◌}
-use native.Mathlib.Nat.{add-zero}
-use native.Mathlib.Omega.{arith}
-use lib.Dec.{eqb, leb}
-use lib.ListN.{length, get_or, take, drop, length-drop, get_or-map, drop_of_length-le}
-use lib.Seq.{drop-drop, get_or-take, get_or-drop}
-use borrow.Author.Tests.{leb-true, le-leb, eqb-true, eq-eqb}
+use Rattle.std.proofs.Common.{◌≡◌, refl, sym, ap, ap₂, Bool, true, false, cond, ◌&&◌, true≢false, List, [], ◌∷◌, map, ℕ, zero, suc, ◌+◌, ◌≤◌, ◌<◌, add-zero, arith, eqb, leb, length, get_or, take, drop, length-drop, drop_of_length-le, drop-drop, get_or-take, get_or-drop, leb-true, le-leb, eqb-true, eq-eqb}
+use Rattle.std.proofs.Math.ListN.{get_or-map}
 use Rattle.spec_text.specs.Bytes.{Bytes, Part, no_part, all, is_name, is_number, value_of, largest_span, largest_count}
-use Rattle.spec_text.specs.Lines.{Word, well_formed, parsed, sort_of}
+use Rattle.spec_text.specs.Lines.{Word, well_formed, parsed}
+use Rattle.spec_text.specs.declared.sort.Sort.{Sort}
+use Rattle.read_words.specs.WordsModel.{sort_in}
 use Rattle.spec_text.proofs.Lists.{and_split}
 use Rattle.read_fields.specs.FieldsModel.{hash_of}
 use Rattle.read_line.specs.LineModel.{numbers_of}
@@ -62,7 +56,7 @@ begins_true (suc k) right (f ∷ fs) h e = let a = and_split (right f.bytes) _ e
 
 true_begins : (k : ℕ) (right : Bytes → Bool) (fs : List Part) → begins k right fs ≡ true → (k ≤ length fs) × (each right (take k fs) ≡ true)
 true_begins zero right fs e = (omega arith, refl)
-true_begins (suc k) right [] e = absurd (false≢true e)
+true_begins (suc k) right [] e = absurd (true≢false (sym e))
 true_begins (suc k) right (f ∷ fs) e =
     let a = and_split (right f.bytes) _ e in
     let b = true_begins k right fs a.1 in
@@ -115,11 +109,10 @@ formed_rows w fs = iff (well_formed w fs) (by_rows w fs) (there (spans w) (names
 
 -- ---- what is read
 -- a line by the fields of its span, of its name and of its counts, how many parameters it has, and where it ends
-abbrev pub of_parts : ℕ → ℕ → List Part → List Part → List Part → ℕ → ℕ → Line
+abbrev pub of_parts : ℕ → Sort → List Part → List Part → List Part → ℕ → ℕ → Line
 of_parts kind sort span own counts params next =
     let x = get_or own 0 no_part in
     record {
-      ok = true;
       kind = kind;
       sort = sort;
       start = number_at span 0;
@@ -149,7 +142,7 @@ pub parsed_rows : (n : ℕ) (w : Word) (fs : List Part) (next : ℕ)
     → numbers_of (parsed n w fs) next
     ≡ (let g = drop (spans w) fs in
     let h = drop (names w) g in
-    of_parts n (sort_of w.form) (take (spans w) fs) (take (names w) g) (take w.counts h) (length (drop w.counts h)) next)
+    of_parts n (sort_in w.form) (take (spans w) fs) (take (names w) g) (take w.counts h) (length (drop w.counts h)) next)
 parsed_rows n w fs next =
     let counts : List Part = take w.counts (drop (spans w + names w) fs) in
     rw (span_at w.spanned fs 0 (omega arith), span_at w.spanned fs 1 (omega arith), name_at_lem w.named (spans w) fs)

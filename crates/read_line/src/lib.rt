@@ -2,10 +2,11 @@
 #![tactic(auto)]
 
 ghost use Rattle.std.specs.Prelude.{◌≡◌};
-ghost use Rattle.read_line.specs.LineModel.{line_at, no_line};
-ghost use Rattle.read_line.specs.StepsModel.{span_from, count_from, own_from, params_from};
+ghost use Rattle.read_line.specs.LineModel.{line_at};
+ghost use Rattle.read_line.specs.StepsModel.{number_if, name_if, params_if};
 
 use read_fields::{Cursor, Name, Number};
+use spec_text::Sort;
 
 // The largest s or e of a span, and the largest count.
 const LARGEST_SPAN: u32 = 4294967295;
@@ -14,11 +15,10 @@ const LARGEST_COUNT: u32 = 4096;
 
 // A line as numbers: the word's place in the table, the class of places where it is due, its span, its own name with its hash,
 // its counts, how many parameters it has, and where the next line starts. What it has not is 0.
-#[derive(Clone, Copy)]
+#[derive(Clone, Copy, Default)]
 pub struct Line {
-    pub ok: bool,
     pub kind: usize,
-    pub sort: usize,
+    pub sort: Sort,
     pub start: u32,
     pub end: u32,
     pub name: usize,
@@ -31,128 +31,83 @@ pub struct Line {
     pub next: usize,
 }
 
-// How many parameters there are.
+// How many parameters there are, and the cursor past them.
 #[derive(Clone, Copy)]
 pub struct Params {
     pub count: usize,
     pub next: Cursor,
 }
 
-#[tactic(auto, unfolding(crate::specs::StepsModel::span_from))]
-fn span(c: Cursor, text: &[u8], due: bool) -> Number
-    ensures { result ≡ span_from due text.now c }
+// A number of the line's span or a count, where one is due.
+#[tactic(auto, unfolding(crate::specs::StepsModel::number_if))]
+fn number_if(due: bool, largest: u32, text: &[u8], c: Cursor) -> Option<Number>
+    ensures { result ≡ number_if due largest text.now c }
 {
     if due {
-        c.number(text, LARGEST_SPAN)
+        c.number(text, largest)
     } else {
-        Number { value: 0, next: c }
+        Some(Number { value: 0, next: c })
     }
 }
 
-#[tactic(auto, unfolding(crate::specs::StepsModel::count_from))]
-fn count(c: Cursor, text: &[u8], due: bool) -> Number
-    ensures { result ≡ count_from due text.now c }
-{
-    if due {
-        c.number(text, LARGEST_COUNT)
-    } else {
-        Number { value: 0, next: c }
-    }
-}
-
-// The line's own name.
-#[tactic(auto, unfolding(crate::specs::StepsModel::own_from))]
-fn name_if_due(c: Cursor, text: &[u8], due: bool) -> Name
-    ensures { result ≡ own_from due text.now c }
+// The line's own name, where one is due.
+#[tactic(auto, unfolding(crate::specs::StepsModel::name_if))]
+fn name_if(due: bool, text: &[u8], c: Cursor) -> Option<Name>
+    ensures { result ≡ name_if due text.now c }
 {
     if due {
         c.name(text)
     } else {
-        Name {
+        Some(Name {
             at: 0,
             len: 0,
             hash: 0,
             next: c,
-        }
+        })
     }
 }
 
-// All the fields that are left, as names.
-fn params_of(c: Cursor, text: &[u8], due: bool) -> Params
-    ensures { result ≡ params_from due text.now c }
+// All the fields that are left, as names, where parameters are due.
+#[tactic(auto, using(crate::proofs::Tail::turn, crate::proofs::Tail::none_here, crate::proofs::Tail::out))]
+fn params_if(due: bool, text: &[u8], c: Cursor) -> Option<Params>
+    ensures { result ≡ params_if due text.now c }
 {
-    if !due {
-        return Params { count: 0, next: c };
-    }
     let mut next = c;
-    let mut n = 0;
-    while next.ok && next.more {
-        next = next.name(text).next;
-        n += 1;
+    let mut count = 0;
+    while due && next.more {
+        next = next.name(text)?.next;
+        count += 1;
     }
-    if next.ok {
-        return Params {
-            count: n,
-            next: next,
-        };
-    }
-    Params {
-        count: 0,
-        next: next,
-    }
-}
-
-fn no_line() -> Line
-    ensures { result ≡ no_line }
-{
-    Line {
-        ok: false,
-        kind: 0,
-        sort: 0,
-        start: 0,
-        end: 0,
-        name: 0,
-        len: 0,
-        hash: 0,
-        count0: 0,
-        count1: 0,
-        count2: 0,
-        params: 0,
-        next: 0,
-    }
+    Some(Params { count, next })
 }
 
 // The line that starts at an offset.
-pub fn line_at(text: &[u8], at: usize) -> Line
+#[tactic(auto, using(crate::proofs::BySteps::by_steps_lem))]
+pub fn line_at(text: &[u8], at: usize) -> Option<Line>
     ensures { result ≡ line_at text.now at }
 {
-    let k = read_words::kind_of(text, Cursor::start(at));
-    let s = read_words::shape_of(k.kind);
-    let from = span(k.next, text, s.spanned);
-    let to = span(from.next, text, s.spanned);
-    let own = name_if_due(to.next, text, s.named);
-    let a = count(own.next, text, 0 < s.counts);
-    let b = count(a.next, text, 1 < s.counts);
-    let c = count(b.next, text, 2 < s.counts);
-    let p = params_of(c.next, text, s.params);
-    let e = p.next.line_end();
-    if e.ok {
-        Line {
-            ok: true,
-            kind: k.kind,
-            sort: s.sort,
-            start: from.value,
-            end: to.value,
-            name: own.at,
-            len: own.len,
-            hash: own.hash,
-            count0: a.value,
-            count1: b.value,
-            count2: c.value,
-            params: p.count,
-            next: e.at,
-        }
-    } else {
-        no_line()
-    }
+    let word = read_words::kind_of(text, Cursor::start(at))?;
+    let shape = read_words::shape_of(word.kind);
+    let start = number_if(shape.spanned, LARGEST_SPAN, text, word.next)?;
+    let end = number_if(shape.spanned, LARGEST_SPAN, text, start.next)?;
+    let name = name_if(shape.named, text, end.next)?;
+    let count0 = number_if(0 < shape.counts, LARGEST_COUNT, text, name.next)?;
+    let count1 = number_if(1 < shape.counts, LARGEST_COUNT, text, count0.next)?;
+    let count2 = number_if(2 < shape.counts, LARGEST_COUNT, text, count1.next)?;
+    let params = params_if(shape.params, text, count2.next)?;
+    let line_end = params.next.line_end()?;
+    Some(Line {
+        kind: word.kind,
+        sort: shape.sort,
+        start: start.value,
+        end: end.value,
+        name: name.at,
+        len: name.len,
+        hash: name.hash,
+        count0: count0.value,
+        count1: count1.value,
+        count2: count2.value,
+        params: params.count,
+        next: line_end.at,
+    })
 }
