@@ -1,0 +1,13 @@
+-- What the number `same` of Layout stands for: below 4,096 an earlier row, else a link.
+use Rattle.std.specs.Prelude.{ℕ, zero, suc, ◌-◌, cond, Option, None, Some, ltb}
+use Rattle.work_rows.specs.Layout.{rows_most}
+use Rattle.work_rows.specs.declared.SameName.{SameName}
+use Rattle.work_rows.specs.declared.SameName.TheVariants.{Row, Link}
+
+-- a row and one, or 0, as a row or none
+abbrev pub link_of : ℕ → Option ℕ
+link_of zero = None
+link_of (suc j) = Some j
+
+abbrev pub same_of : ℕ → SameName
+same_of n = cond (ltb n rows_most) (Row n) (Link (link_of (n - rows_most)))
