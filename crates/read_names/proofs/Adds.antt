@@ -1,17 +1,6 @@
 -- One row more. What the buffer holds of a row is said of its second number alone (`Row`), so it stays where that is not written and
 -- where a name is added; a head is written only for a name that no row has yet.
-use Prim.Native.Nat.{ℕ, ◌+◌, ◌-◌, ◌/◌, ◌%◌, ◌≤◌, ◌<◌}
-use native.Mathlib.Nat.{mod-eq_of_lt}
-use native.Mathlib.Omega.{arith}
-use mathlib.Core.Path.{◌≡◌, sym, ap, ◌∙◌, subst}
-use mathlib.Core.Bool.{cond}
-use mathlib.Core.List.{List, []}
-use mathlib.Core.Logic.{◌⊎◌, inl, inr, ⊎_elim}
-use borrow.Author.Count.{below_more}
-use borrow.Author.Tests.{lt-ltb, le-ltb, le-leb}
-use lib.Dec.{leb, ltb}
-use lib.ListN.{length, get_or, length-set}
-use lib.Seq.{get_or-set_same, get_or-set_other}
+use Rattle.std.proofs.Common.{ℕ, ◌+◌, ◌-◌, ◌/◌, ◌%◌, ◌≤◌, ◌<◌, mod-eq_of_lt, arith, ◌≡◌, sym, ap, ◌∙◌, subst, cond, List, [], ◌⊎◌, inl, inr, ⊎_elim, below_more, lt-ltb, le-ltb, le-leb, leb, ltb, length, get_or, length-set, get_or-set_same, get_or-set_other}
 use Rattle.spec_text.specs.Bytes.{Bytes, part_of}
 use Rattle.read_fields.specs.FieldsModel.{field_at, hash_of}
 use Rattle.work_rows.specs.Layout.{put, rows_most, name_base, head_base, head_end, name_of, offset_at, same_at}

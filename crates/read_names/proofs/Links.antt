@@ -1,16 +1,6 @@
 -- Links of a chain: what a link says stays with one name more, and whoever follows the links of a name's hash ends at the earliest row
 -- that has the name. All new rows from m on that have the name are passed, and a link skips only rows of other hashes.
-use Prim.Native.Nat.{ℕ, zero, suc, ◌+◌, ◌-◌, ◌≤◌, ◌<◌}
-use native.Mathlib.Nat.{eq-or-lt_of_le}
-use native.Mathlib.Omega.{arith}
-use mathlib.Core.Path.{◌≡◌, refl, sym, ap, ◌∙◌, subst}
-use mathlib.Core.Bool.{Bool, true, false}
-use mathlib.Core.List.{List, [], ◌∷◌}
-use mathlib.Core.Logic.{◌⊎◌, inl, inr, ⊎_elim}
-use borrow.Author.Count.{below_more}
-use lib.Dec.{leb}
-use lib.ListN.{length, get_or}
-use borrow.Author.Tests.{leb-true, leb-false}
+use Rattle.std.proofs.Common.{ℕ, zero, suc, ◌+◌, ◌-◌, ◌≤◌, ◌<◌, eq-or-lt_of_le, arith, ◌≡◌, refl, sym, ap, ◌∙◌, subst, Bool, true, false, List, [], ◌∷◌, ◌⊎◌, inl, inr, ⊎_elim, below_more, leb, length, get_or, leb-true, leb-false}
 use Rattle.spec_text.specs.Bytes.{Bytes, same}
 use Rattle.read_fields.specs.FieldsModel.{field_at, mix, hash_from, hash_of}
 use Rattle.work_rows.specs.Layout.{rows_most, offset_at}

@@ -1,14 +1,6 @@
 -- What the writes leave in the work buffer: its length, the numbers written elsewhere, and the offset of the row written.
-use Prim.Native.Nat.{ℕ, zero, suc, ◌+◌, ◌%◌, ◌≤◌, ◌<◌}
-use native.Mathlib.Omega.{arith}
-use mathlib.Core.Path.{◌≡◌, refl, ap, ◌∙◌}
-use mathlib.Core.Bool.{Bool, true, false}
-use mathlib.Core.List.{List}
-use mathlib.Core.Logic.{◌⊎◌, inl, inr, ⊎_elim}
-use lib.Dec.{eqb, ltb}
-use lib.ListN.{length, get_or, set, length-set}
-use lib.Seq.{get_or-set_same, get_or-set_other}
-use borrow.Author.Tests.{eqb-true, eqb-false, lt-ltb, le-ltb}
+use Rattle.std.proofs.Common.{ℕ, zero, suc, ◌+◌, ◌%◌, ◌≤◌, ◌<◌, arith, ◌≡◌, refl, ap, ◌∙◌, Bool, true, false, List, ◌⊎◌, inl, inr, ⊎_elim, eqb, ltb, length, get_or, set, length-set, get_or-set_same, get_or-set_other, eqb-true, lt-ltb, le-ltb}
+use borrow.Author.Tests.{eqb-false}
 use Rattle.spec_text.specs.Bytes.{Bytes, part_of}
 use Rattle.work_rows.specs.Layout.{put, rows_most, name_base, head_base, head_end, name_of, offset_at}
 use Rattle.read_names.specs.ChainsModel.{head_at, found, placed, name_entered, added, cleared_from, cleared}

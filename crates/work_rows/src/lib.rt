@@ -2,8 +2,8 @@
 #![tactic(auto)]
 
 ghost use Rattle.std.specs.Prelude.{◌≡◌, ◌+◌, ◌%◌, ◌<◌, ◌≤◌, get_or};
-ghost use Rattle.work_rows.specs.Layout.{put, kind_at, lines_below, after_row, offset_at, same_at, number_at};
-ghost use Rattle.work_rows.specs.SameForms.{same_of};
+ghost use Rattle.work_rows.specs.Layout.{put, kind_at, lines_below, after_row, offset_at, same_at, number_at, name_base, name_of};
+ghost use Rattle.work_rows.specs.SameForms.{same_number, same_of};
 
 // The most rows.
 pub const ROWS_MOST: usize = 4096;
@@ -67,6 +67,7 @@ pub fn lines_below(work: &[u32], i: usize) -> usize
 }
 
 // The row after the part that begins at row i.
+// Kept: the `requires`, since no usize is the row after the last that a usize holds.
 pub fn after_row(work: &[u32], i: usize) -> usize
     requires { i < 4294967296 }
     ensures { (result ≡ after_row work.now i) × (result ≤ i + 4096) }
@@ -74,9 +75,24 @@ pub fn after_row(work: &[u32], i: usize) -> usize
     i + 1 + lines_below(work, i)
 }
 
+// Writes row i's second number. 32 bits of it are kept, so that the sum may wrap.
+pub fn put_name(work: &mut [u32], i: usize, offset: usize, same: SameName)
+    ensures { work.new ≡ put work.old (name_base + i) (name_of offset (same_number same)) }
+{
+    let above = match same {
+        SameName::Row(first) => first,
+        SameName::Link(next) => ROWS_MOST.wrapping_add(next.map_or(0, |j| j.wrapping_add(1))),
+    };
+    put(
+        work,
+        NAME_BASE.saturating_add(i),
+        offset.wrapping_add(OFFSETS.wrapping_mul(above)),
+    )
+}
+
 // Row i's second number.
 fn second(work: &[u32], i: usize) -> usize
-    ensures { result ≡ get_or work.now (4096 + i) 0 }
+    ensures { result ≡ get_or work.now (name_base + i) 0 }
 {
     get(work, NAME_BASE.saturating_add(i))
 }
