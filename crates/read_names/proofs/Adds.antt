@@ -1,24 +1,14 @@
 -- One row more. What the buffer holds of a row is said of its second number alone (`Row`), so it stays where that is not written and
 -- where a name is added; a head is written only for a name that no row has yet.
-use Prim.Native.Nat.{ℕ, ◌+◌, ◌-◌, ◌/◌, ◌%◌, ◌≤◌, ◌<◌}
-use native.Mathlib.Nat.{mod-eq_of_lt}
-use native.Mathlib.Omega.{arith}
-use mathlib.Core.Path.{◌≡◌, sym, ap, ◌∙◌, subst}
-use mathlib.Core.Bool.{cond}
-use mathlib.Core.List.{List, []}
-use mathlib.Core.Logic.{◌⊎◌, inl, inr, ⊎_elim}
-use borrow.Author.Count.{below_more}
-use borrow.Author.Tests.{lt-ltb, le-ltb, le-leb}
-use lib.Dec.{leb, ltb}
-use lib.ListN.{length, get_or, length-set}
-use lib.Seq.{get_or-set_same, get_or-set_other}
+use Rattle.std.proofs.Common.{ℕ, ◌+◌, ◌-◌, ◌/◌, ◌%◌, ◌≤◌, ◌<◌, mod-eq_of_lt, arith, ◌≡◌, sym, ap, ◌∙◌, subst, cond, List, [], ◌⊎◌, inl, inr, ⊎_elim, below_more, lt-ltb, le-ltb, le-leb, leb, ltb, length, get_or, length-set, get_or-set_same, get_or-set_other}
+use Rattle.std.proofs.lemmas.Bool.{cases_eq}
 use Rattle.spec_text.specs.Bytes.{Bytes, part_of}
 use Rattle.read_fields.specs.FieldsModel.{field_at, hash_of}
 use Rattle.work_rows.specs.Layout.{put, rows_most, name_base, head_base, head_end, name_of, offset_at, same_at}
 use Rattle.read_names.specs.Names.{earliest}
 use Rattle.read_names.specs.ChainsModel.{head_at, found, placed, name_entered, added, cleared, New, Link, Names}
 use Rattle.read_names.proofs.Earliest.{more, First, Absent, sought, earliest_first, earliest_absent, first_more, first_new, earliest_more, more_old, more_new, more_length}
-use Rattle.read_names.proofs.Writes.{eq_or_ne, marked, headed, entered_old, entered_new, cleared_length, cleared_head}
+use Rattle.read_names.proofs.Writes.{marked, headed, entered_old, entered_new, cleared_length, cleared_head}
 use Rattle.read_names.proofs.Links.{hash_small, found_earliest, first_is_new, new_less, link_more, link_past, link_on}
 
 -- ---- row k's second number is an offset and a mark: a number, or a link
@@ -131,7 +121,7 @@ module _ {text : Bytes} {names : List Bytes} {w : List ℕ} (s : Names text name
       names_more (headed z (length names) (hash_of x)) at mark (length-set z (head_base + hash_of x % 4_096) ((length names + 1) % 4_294_967_296) ∙ sized)
       (λ k q. other (name_base + k) (λ e. omega arith) ∙ marked_other at mark (name_base + k) (λ e. omega arith)) l
       (other (name_base + length names) (λ e. omega arith) ∙ marked_here at mark l m) r
-      (λ h q. ⊎_elim (same h) (different h q) (eq_or_ne h (hash_of x)))
+      (λ h q. ⊎_elim (same h) (different h q) (cases_eq h (hash_of x)))
     where
       z : List ℕ
       z = marked w (length names) at mark

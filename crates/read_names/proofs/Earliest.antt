@@ -1,13 +1,7 @@
 -- The earliest row that has a name: either some row is the first that has it, or no row has it. What follows for two rows' numbers,
 -- and for a list with one name more.
-use Prim.Native.Nat.{ℕ, zero, suc, ◌+◌, ◌<◌, suc-le-suc}
-use native.Mathlib.Nat.{le_of_suc-le-suc, not-suc-le-zero}
-use native.Mathlib.Omega.{arith}
-use mathlib.Core.Path.{◌≡◌, refl, sym, ap, ◌∙◌}
-use mathlib.Core.Bool.{Bool, true, false}
-use mathlib.Core.List.{List, [], ◌∷◌, ◌++◌}
-use mathlib.Core.Logic.{◌⊎◌, inl, inr}
-use lib.ListN.{length, get_or, length-append, get_or-append}
+use Rattle.std.proofs.Common.{ℕ, zero, suc, ◌+◌, ◌<◌, suc-le-suc, le_of_suc-le-suc, not-suc-le-zero, arith, ◌≡◌, refl, sym, ap, ◌∙◌, Bool, true, false, List, [], ◌∷◌, ◌++◌, ◌⊎◌, inl, inr, length, get_or, length-append}
+use lib.ListN.{get_or-append}
 use lib.Seq.{get_or-append_seam}
 use Rattle.spec_text.specs.Bytes.{Bytes, same}
 use Rattle.spec_text.proofs.Lists.{same_refl, same_eq, same_false, other_same}

@@ -1,16 +1,7 @@
 -- Links of a chain: what a link says stays with one name more, and whoever follows the links of a name's hash ends at the earliest row
 -- that has the name. All new rows from m on that have the name are passed, and a link skips only rows of other hashes.
-use Prim.Native.Nat.{ℕ, zero, suc, ◌+◌, ◌-◌, ◌≤◌, ◌<◌}
-use native.Mathlib.Nat.{eq-or-lt_of_le}
-use native.Mathlib.Omega.{arith}
-use mathlib.Core.Path.{◌≡◌, refl, sym, ap, ◌∙◌, subst}
-use mathlib.Core.Bool.{Bool, true, false}
-use mathlib.Core.List.{List, [], ◌∷◌}
-use mathlib.Core.Logic.{◌⊎◌, inl, inr, ⊎_elim}
-use borrow.Author.Count.{below_more}
-use lib.Dec.{leb}
-use lib.ListN.{length, get_or}
-use borrow.Author.Tests.{leb-true, leb-false}
+use Rattle.std.proofs.Common.{ℕ, zero, suc, ◌+◌, ◌-◌, ◌≤◌, ◌<◌, eq-or-lt_of_le, arith, ◌≡◌, refl, sym, ap, ◌∙◌, subst, Bool, true, false, List, [], ◌∷◌, ◌⊎◌, inl, inr, ⊎_elim, below_more, length, get_or}
+use Rattle.std.proofs.lemmas.Bool.{cases_lt}
 use Rattle.spec_text.specs.Bytes.{Bytes, same}
 use Rattle.read_fields.specs.FieldsModel.{field_at, mix, hash_from, hash_of}
 use Rattle.work_rows.specs.Layout.{rows_most, offset_at}
@@ -18,13 +9,6 @@ use Rattle.read_names.specs.Names.{earliest}
 use Rattle.read_names.specs.ChainsModel.{head_at, link_at, follow, found, New, Link, Names}
 use Rattle.read_names.proofs.Earliest.{more, First, Absent, sought, earliest_first, earliest_absent, more_old}
 use Rattle.spec_text.proofs.Lists.{same_eq, same_false}
-
-le_or_lt : (a b : ℕ) → (a ≤ b) ⊎ (b < a)
-le_or_lt a b = go (leb a b) refl
-  where
-    go : (t : Bool) → leb a b ≡ t → (a ≤ b) ⊎ (b < a)
-    go true e = inl (leb-true a b e)
-    go false e = inr (leb-false a b e)
 
 hash_from_lem : (h : ℕ) (x : Bytes) → h < 4_096 → hash_from h x < 4_096
 unfolding hash_from
@@ -89,7 +73,7 @@ module _ {text : Bytes} {names : List Bytes} {w : List ℕ} (s : Names text name
       go (inr a) = sym (earliest_absent names x a)
       go (inl (j, f)) =
           let n = first_is_new some f in
-          absurd (⊎_elim (λ a. past j a f.low n f.is) (λ a. l.skip j a (omega arith) n (ap hash_of f.is)) (le_or_lt m j))
+          absurd (⊎_elim (λ a. l.skip j a (omega arith) n (ap hash_of f.is)) (λ a. past j a f.low n f.is) (cases_lt j m))
 
   -- at row j: it has the name, or the search goes on with the rows before it
   follow_step : (m j rest : ℕ) → m ≤ length names → Link names (hash_of x) m (suc j) → Past names x m → (Past names x j → rest ≡ earliest names x)
@@ -107,9 +91,9 @@ module _ {text : Bytes} {names : List Bytes} {w : List ℕ} (s : Names text name
 
       go : (t : Bool) → same (field_at text (offset_at w j)) x ≡ t → (elim t [ true ↦ j | false ↦ rest ]) ≡ earliest names x
       go true e = sym (earliest_first (new_is_first {names = names} {x = x} low new (sym name ∙ same_eq _ x e)))
-      go false e = more (λ k a q n z. ⊎_elim (λ o. past k o q n z) (λ o. ⊎_elim
+      go false e = more (λ k a q n z. ⊎_elim (λ o. ⊎_elim
           (λ i. same_false _ x e (name ∙ (ap (λ r. get_or names r []) i ∙ z)))
-          (λ i. l.skip k o i n (ap hash_of z)) (eq-or-lt_of_le a)) (le_or_lt m k))
+          (λ i. l.skip k o i n (ap hash_of z)) (eq-or-lt_of_le a)) (λ o. past k o q n z) (cases_lt k m))
 
   pub follow_earliest : (fuel m c : ℕ) → c ≤ fuel → m ≤ length names → Link names (hash_of x) m c → Past names x m → follow fuel text w c x ≡ earliest names x
   unfolding follow

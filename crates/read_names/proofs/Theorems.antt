@@ -1,13 +1,7 @@
 -- What is proved of the names' numbers. `Names text names w` says that the buffer w holds the first rows' names, in the order read: it
 -- holds for no row after `cleared`, and for one row more after `added` and `placed`; and then two rows have one number exactly when they
 -- have one name, and what is looked up is the earliest row that has the name. Of the writes it is also said what they leave as it was.
-use Prim.Native.Nat.{ℕ, ◌≤◌, ◌<◌}
-use native.Mathlib.Omega.{arith}
-use mathlib.Core.Path.{◌≡◌, refl}
-use mathlib.Core.List.{List, [], ◌∷◌, ◌++◌}
-use mathlib.Core.Logic.{◌↔◌, ⊎_elim}
-use lib.ListN.{length, get_or, set, length-set}
-use lib.Seq.{get_or-set_other}
+use Rattle.std.proofs.Common.{ℕ, ◌≤◌, ◌<◌, arith, ◌≡◌, refl, List, [], ◌∷◌, ◌++◌, ◌↔◌, ⊎_elim, length, get_or, set, length-set, get_or-set_other}
 use Rattle.spec_text.specs.Bytes.{Bytes, part_of}
 use Rattle.read_fields.specs.FieldsModel.{field_at, hash_of}
 use Rattle.work_rows.specs.Layout.{rows_most, number_at}

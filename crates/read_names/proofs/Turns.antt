@@ -1,28 +1,10 @@
--- The code's steps, as the definitions have them: a link, a step along a chain, a turn of the loop that clears.
-use Prim.Native.Nat.{ℕ, zero, suc, ◌+◌, ◌-◌, ◌*◌, ◌%◌, ◌≤◌, ◌<◌}
-use native.Mathlib.Omega.{arith}
-use mathlib.Core.Path.{◌≡◌, refl, ap, ◌∙◌}
-use mathlib.Core.Bool.{Bool, true, false, cond}
-use mathlib.Core.List.{List}
-use lib.Dec.{leb}
-use lib.ListN.{set}
-use borrow.Author.Tests.{le-leb, lt-leb, leb-true}
-use Rattle.spec_text.specs.Bytes.{Bytes, same, part_of}
-use Rattle.read_fields.specs.FieldsModel.{field_at, hash_of}
-use Rattle.work_rows.specs.Layout.{rows_most, head_end, offset_at, same_at}
-use Rattle.read_names.specs.ChainsModel.{head_at, link_at, follow, found, lookup, name_entered, added, cleared_from}
-use Rattle.read_names.proofs.Writes.{entered_new}
-
--- ---- a link: s is the row's mark
-module _ (w : List ℕ) (j s : ℕ) (e : s ≡ same_at w j) where
-  pub link_next : s - rows_most ≤ j → s - rows_most ≡ link_at w j
-  link_next l = rw (← e, le-leb (s - rows_most) j l)
-
-  pub link_none : s < rows_most → 0 ≡ link_at w j
-  link_none l = let d : 0 ≡ s - rows_most = omega arith in d ∙ link_next (omega arith)
-
-  pub link_over : j < s - rows_most → 0 ≡ link_at w j
-  link_over l = rw (← e, lt-leb (s - rows_most) j l)
+-- The code's steps, as the definitions have them: along a chain, and over the heads that are cleared.
+use Rattle.std.proofs.Common.{ℕ, zero, suc, ◌+◌, ◌-◌, ◌≤◌, ◌<◌, ◌≡◌, refl, sym, ap, ◌∙◌, Bool, true, false, cond, List, leb, length, take, drop, set, replicate, arith, leb-true, add-one, append_assoc, take-append-drop, length-set, length-drop, length-take-le, take-suc-set, drop-set-lt, drop-drop}
+use borrow.Rule.Slice.PartMut.{put_mid}
+use Rattle.spec_text.specs.Bytes.{Bytes, same}
+use Rattle.read_fields.specs.FieldsModel.{field_at}
+use Rattle.work_rows.specs.Layout.{rows_most, head_base, head_end, offset_at, same_at}
+use Rattle.read_names.specs.ChainsModel.{link_at, follow, cleared_from, cleared}
 
 pub link_falls : (w : List ℕ) (j : ℕ) → link_at w j ≤ j
 link_falls w j = go (leb (same_at w j - rows_most) j) refl
@@ -45,46 +27,21 @@ module _ (text : Bytes) (w : List ℕ) (x : Bytes) where
       ap (λ r. elim (same (field_at text (offset_at w j)) x) [ true ↦ j | false ↦ r ])
       (enough n m (link_at w j) (omega (arith, link_falls w j)) (omega (arith, link_falls w j)))
 
-  pub follow_none : (c : ℕ) → c ≤ 0 → follow c text w c x ≡ rows_most
-  unfolding follow
-  follow_none zero l = refl
-  follow_none (suc j) l = absurd (omega arith)
+  -- the steps that a row leaves are enough for the rest of its chain
+  pub follow_rest : (j : ℕ) → follow j text w (link_at w j) x ≡ follow (link_at w j) text w (link_at w j) x
+  follow_rest j = enough j (link_at w j) (link_at w j) (link_falls w j) (omega arith)
 
-  -- one step
-  step : (c : ℕ) → 0 < c
-      → follow c text w c x ≡ elim (same (field_at text (offset_at w (c - 1))) x) [ true ↦ c - 1 | false ↦ follow (c - 1) text w (link_at w (c - 1)) x ]
-  unfolding follow
-  step c p = let e : c ≡ suc (c - 1) = omega arith in ap (λ k. follow k text w k x) e
-
-  module _ (c : ℕ) (p : 0 < c) where
-    pub walk_has : same (field_at text (offset_at w (c - 1))) x ≡ true → follow c text w c x ≡ c - 1
-    walk_has e = step c p ∙ ap (λ t. elim t [ true ↦ c - 1 | false ↦ follow (c - 1) text w (link_at w (c - 1)) x ]) e
-
-    pub walk_next : same (field_at text (offset_at w (c - 1))) x ≡ false → follow c text w c x ≡ follow (link_at w (c - 1)) text w (link_at w (c - 1)) x
-    walk_next e =
-        step c p
-        ∙ (ap (λ t. elim t [ true ↦ c - 1 | false ↦ follow (c - 1) text w (link_at w (c - 1)) x ]) e
-        ∙ enough (c - 1) (link_at w (c - 1)) (link_at w (c - 1)) (link_falls w (c - 1)) (omega arith))
-
--- ---- what is looked up
-pub look_up : (text : Bytes) (w : List ℕ) (x : Bytes) (h r : ℕ) → h ≡ hash_of x → r ≡ found text w h x → r ≡ lookup text w x
-look_up text w x h r e p = p ∙ ap (λ g. found text w g x) e
-
--- ---- a row's name
-pub enter_new : (w y z : List ℕ) (i at h r c : ℕ) → rows_most ≤ r → c ≡ head_at w h → y ≡ set w (4_096 + i) ((at + 65_536 * (4_096 + c)) % 4_294_967_296)
-    → z ≡ set y (8_192 + h % 4_096) ((i + 1) % 4_294_967_296) → z ≡ name_entered w i at h r
-enter_new w y z i at h r c l e p q = cc (entered_new w i at h r l)
-
-pub add_row : (text : Bytes) (w z : List ℕ) (i at len h r : ℕ) (x : Bytes) → x ≡ part_of text at len → r ≡ found text w h x → z ≡ name_entered w i at h r
-    → z ≡ added text w i at len h
-unfolding added
-add_row text w z i at len h r x e p q = q ∙ ap (name_entered w i at h) (p ∙ ap (found text w h) e)
-
--- ---- the heads cleared from i on
-pub clear_turn : (w : List ℕ) (i : ℕ) → i < head_end → cleared_from (head_end - i) i w ≡ cleared_from (head_end - (i + 1)) (i + 1) (set w i 0)
+-- ---- the heads cleared: so many numbers from i on are 0
+pub cleared_fill : (n i : ℕ) (w : List ℕ) → i + n ≤ length w → cleared_from n i w ≡ put_mid i n w (replicate n 0)
 unfolding cleared_from
-clear_turn w i l = let e : head_end - i ≡ suc (head_end - (i + 1)) = omega arith in ap (λ n. cleared_from n i w) e
+cleared_fill zero i w l = sym (take-append-drop i w)
+cleared_fill (suc n) i w l =
+    let inside : i < length w = omega arith in
+    let rest : suc i + n ≡ i + suc n = omega arith in
+    cleared_fill n (i + 1) (set w i 0) (omega (arith, length-set w i 0))
+    ∙ rw (add-one i, take-suc-set w i 0 inside, drop-set-lt (suc i) w i 0 (omega arith), drop-drop, append_assoc) (rw (drop-drop, rest))
 
-pub clear_done : (w : List ℕ) (i : ℕ) → head_end ≤ i → cleared_from (head_end - i) i w ≡ w
-unfolding cleared_from
-clear_done w i l = let e : head_end - i ≡ 0 = omega arith in ap (λ n. cleared_from n i w) e
+pub heads_filled : (w ys : List ℕ) → head_end ≤ length w → ys ≡ replicate (length (take 4_096 (drop head_base w))) 0 → put_mid head_base 4_096 w ys ≡ cleared w
+heads_filled w ys l e =
+    let all : length (take 4_096 (drop head_base w)) ≡ 4_096 = length-take-le 4_096 (drop head_base w) (omega (arith, length-drop head_base w)) in
+    ap (put_mid head_base 4_096 w) (e ∙ ap (λ n. replicate n 0) all) ∙ sym (cleared_fill 4_096 head_base w l)

@@ -1,24 +1,9 @@
 -- What the writes leave in the work buffer: its length, the numbers written elsewhere, and the offset of the row written.
-use Prim.Native.Nat.{ℕ, zero, suc, ◌+◌, ◌%◌, ◌≤◌, ◌<◌}
-use native.Mathlib.Omega.{arith}
-use mathlib.Core.Path.{◌≡◌, refl, ap, ◌∙◌}
-use mathlib.Core.Bool.{Bool, true, false}
-use mathlib.Core.List.{List}
-use mathlib.Core.Logic.{◌⊎◌, inl, inr, ⊎_elim}
-use lib.Dec.{eqb, ltb}
-use lib.ListN.{length, get_or, set, length-set}
-use lib.Seq.{get_or-set_same, get_or-set_other}
-use borrow.Author.Tests.{eqb-true, eqb-false, lt-ltb, le-ltb}
+use Rattle.std.proofs.Common.{ℕ, zero, suc, ◌+◌, ◌%◌, ◌≤◌, ◌<◌, arith, ◌≡◌, refl, ap, ◌∙◌, Bool, true, false, List, ◌⊎◌, inl, inr, ⊎_elim, ltb, length, get_or, set, length-set, get_or-set_same, get_or-set_other, lt-ltb, le-ltb}
+use Rattle.std.proofs.lemmas.Bool.{cases_eq}
 use Rattle.spec_text.specs.Bytes.{Bytes, part_of}
 use Rattle.work_rows.specs.Layout.{put, rows_most, name_base, head_base, head_end, name_of, offset_at}
 use Rattle.read_names.specs.ChainsModel.{head_at, found, placed, name_entered, added, cleared_from, cleared}
-
-pub eq_or_ne : (a b : ℕ) → (a ≡ b) ⊎ (a ≡ b → ⊥)
-eq_or_ne a b = go (eqb a b) refl
-  where
-    go : (t : Bool) → eqb a b ≡ t → (a ≡ b) ⊎ (a ≡ b → ⊥)
-    go true e = inl (eqb-true a b e)
-    go false e = inr (eqb-false a b e)
 
 -- ---- a row's name: its second number, and for a new name the head of its hash
 abbrev pub marked : List ℕ → ℕ → ℕ → ℕ → List ℕ
@@ -118,7 +103,7 @@ from_here (suc n) i w k a b r =
     ⊎_elim
     (λ e. from_other n (i + 1) (set w i 0) k (inl (omega arith)) ∙ (ap (λ j. get_or (set w i 0) j 0) e ∙ get_or-set_same w i 0 0 (omega arith)))
     (λ (d : k ≡ i → ⊥). from_here n (i + 1) (set w i 0) k (omega arith) (omega arith) (rw length-set (omega arith)))
-    (eq_or_ne k i)
+    (cases_eq k i)
 
 pub cleared_length : (w : List ℕ) → length (cleared w) ≡ length w
 cleared_length w = from_length 4_096 head_base w

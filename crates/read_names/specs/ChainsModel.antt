@@ -1,5 +1,5 @@
 -- How names are found: each new name is linked to the one before it that has the same hash, from a head for each hash.
-use Rattle.std.specs.Prelude.{ℕ, zero, suc, ◌+◌, ◌-◌, ◌%◌, ◌≤◌, ◌<◌, true, false, cond, List, [], ◌≡◌, leb, ltb, length, get_or}
+use Rattle.std.specs.Prelude.{ℕ, zero, suc, ◌+◌, ◌-◌, ◌%◌, ◌≤◌, ◌<◌, true, false, cond, Option, None, Some, List, [], ◌≡◌, leb, ltb, length, get_or}
 use Rattle.spec_text.specs.Bytes.{Bytes, same, part_of}
 use Rattle.read_fields.specs.FieldsModel.{field_at, hash_of}
 use Rattle.work_rows.specs.Layout.{put, rows_most, name_base, head_base, name_of, offset_at, same_at}
@@ -11,6 +11,11 @@ head_at w h = get_or w (head_base + h % 4_096) 0 % 8_192
 
 abbrev pub link_at : List ℕ → ℕ → ℕ
 link_at w j = cond (leb (same_at w j - rows_most) j) (same_at w j - rows_most) 0
+
+-- the number of a row that is found, or of none
+abbrev pub row_number : Option ℕ → ℕ
+row_number None = rows_most
+row_number (Some j) = j
 
 -- the first row of the chain at c that has the name x, in so many steps at most
 unfoldable pub follow : ℕ → Bytes → List ℕ → ℕ → Bytes → ℕ

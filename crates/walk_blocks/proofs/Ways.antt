@@ -1,14 +1,11 @@
 -- The definitions by their tests: a parameter that is bound, a turn and the end of the loop over the parameters, and the way into a block.
 -- What is left of the parameters is what the cursor has still to take.
-use Prim.Native.Nat.{ℕ, ◌+◌}
-use mathlib.Core.Path.{◌≡◌, sym, ap, ◌∙◌}
-use mathlib.Core.Bool.{true, false}
-use mathlib.Core.List.{List}
-use lib.ListN.{length}
+use Rattle.std.proofs.Common.{ℕ, ◌+◌, ◌≡◌, refl, sym, ap, ◌∙◌, Bool, true, false, cond, List, length, eqb}
 use Rattle.spec_text.specs.Bytes.{Bytes}
 use Rattle.read_fields.specs.FieldsModel.{field_at, next_at}
 use Rattle.read_fields.specs.declared.Cursor.{Cursor}
 use Rattle.read_names.specs.ChainsModel.{lookup}
+use Rattle.work_marks.specs.MarksModel.{raised_block, raised_lambda}
 use Rattle.walk_scopes.specs.ScopesModel.{Scope, owns, defined}
 use Rattle.walk_own_names.specs.OwnNamesModel.{noted, flagged}
 use Rattle.read_row.specs.RowModel.{parts_from, params_of}
@@ -25,6 +22,20 @@ module _ (text : Bytes) (s : Scope) (i : ℕ) (w : List ℕ) where
     pub one_plain : owns s ≡ false → v ≡ entered_one text s i x w
     unfolding entered_one
     one_plain o = rw (q, p, o)
+
+  -- ---- a name that no row has
+  either : (t : Bool) → cond t w w ≡ w
+  either true = refl
+  either false = refl
+
+  none_defined : defined s w 4_096 ≡ w
+  unfolding defined raised_block raised_lambda
+  none_defined = either (eqb s.inner 0)
+
+  pub one_none : (x : Bytes) → 4_096 ≡ lookup text w x → w ≡ entered_one text s i x w
+  unfolding entered_one noted
+  one_none x p =
+      sym (ap (λ a. cond (owns s) (noted i a (i + 1) (defined s w a)) (defined s w a)) (sym p) ∙ (ap (λ v. cond (owns s) v v) none_defined ∙ either (owns s)))
 
   -- ---- the parameters from the cursor c on; x is the next, and d the cursor after it
   module _ (c : Cursor) where

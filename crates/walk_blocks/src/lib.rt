@@ -20,14 +20,16 @@ fn bind(work: &mut [u32], s: ScopeStack, l: Lambdas, name: usize)
 }
 
 // Binds a parameter of row i.
+#[tactic(auto, using(crate::proofs::Ways::one_owned, crate::proofs::Ways::one_plain, crate::proofs::Ways::one_none))]
 fn enter_one(text: &[u8], work: &mut [u32], s: ScopeStack, l: Lambdas, i: usize, name: &[u8])
     requires { i ≤ 4096 }
     ensures { work.new ≡ entered_one text.now (scope_of s l) i name.now work.old }
 {
-    let a = read_names::row_of(text, work, name);
-    bind(work, s, l, a);
-    if walk_scopes::owns(s, l) {
-        walk_own_names::note_name(work, i, a, i + 1);
+    if let Some(a) = read_names::row_of(text, work, name) {
+        bind(work, s, l, a);
+        if walk_scopes::owns(s, l) {
+            walk_own_names::note_name(work, i, a, i + 1);
+        }
     }
 }
 

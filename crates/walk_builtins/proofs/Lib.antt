@@ -1,2 +1,2 @@
--- The functions of src/lib.rt meet their contracts. Search holds for any tables; that those of src/lib.rt keep the rule is computed by the check of number_of.
+-- Search holds for any names; that the tables of src/lib.rt keep the rule is computed by the check of `names`.
 pub mod Search

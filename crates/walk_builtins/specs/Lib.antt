@@ -1,2 +1,3 @@
--- The built-in names: the number of a name, and the rule of the tables of src/lib.rt.
+-- The built-in names: the number of a name, the rule of the tables of src/lib.rt, and the iterator over them.
 pub mod Table
+pub mod Cut

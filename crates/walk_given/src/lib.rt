@@ -1,47 +1,32 @@
 // What the walk begins with: all marks, slots and stamps are forgotten, and the given names are bound in the module.
 #![tactic(auto)]
 
-ghost use Rattle.std.specs.Prelude.{◌≡◌, ◌<◌, ◌≤◌, length};
-ghost use Rattle.walk_builtins.specs.Table.{names, Rule};
+ghost use Rattle.std.specs.Prelude.{◌≡◌, ◌≤◌, length};
+ghost use Rattle.walk_builtins.specs.Table.{names};
 ghost use Rattle.walk_scopes.specs.ScopesModel.{top_of};
 ghost use Rattle.walk_given.specs.GivenModel.{given, globals_from, begun};
 
 use walk_scopes::ScopeStack;
 
-// Binds the names that lengths cuts from bytes.
-fn define_names(text: &[u8], work: &mut [u32], s: ScopeStack, bytes: &[u8], lengths: &[u8])
-    requires { Rule lengths.now bytes.now }
-    ensures { work.new ≡ given text.now (top_of s) names work.old }
-{
-    let mut at = 0;
-    let mut k = 0;
-    while k < lengths.len() {
-        let end = at + lengths[k] as usize;
-        let name = read_names::row_of(text, work, &bytes[at..end]);
-        walk_scopes::define(work, s, name);
-        at = end;
-        k += 1;
-    }
-}
-
 // Binds the built-in names.
+#[tactic(auto, unfolding(crate::specs::GivenModel::given), using(crate::proofs::Loops::given_row, crate::proofs::Loops::given_none))]
 fn define_builtins(text: &[u8], work: &mut [u32], s: ScopeStack)
     ensures { work.new ≡ given text.now (top_of s) names work.old }
 {
-    let bytes = walk_builtins::BYTES;
-    let lengths = walk_builtins::LENGTHS;
-    define_names(text, work, s, &bytes, &lengths)
+    for name in walk_builtins::names() {
+        if let Some(row) = read_names::row_of(text, work, name) {
+            walk_scopes::define(work, s, row);
+        }
+    }
 }
 
 // Binds the names of the `global` lines.
+#[tactic(auto, unfolding(crate::specs::GivenModel::globals_from), using(crate::proofs::Loops::globals_more))]
 fn define_globals(work: &mut [u32], s: ScopeStack, globals: usize)
-    requires { globals ≤ 4096 }
     ensures { work.new ≡ globals_from globals 0 (top_of s) work.old }
 {
-    let mut i = 0;
-    while i < globals {
+    for i in 0..globals {
         walk_scopes::define(work, s, work_rows::number(work, i));
-        i += 1;
     }
 }
 

@@ -1,9 +1,6 @@
 -- A part of a tree has as many rows as it has lines: by recursion over the tree.
-use Prim.Native.Nat.{ℕ, suc, ◌+◌}
-use native.Mathlib.Omega.{arith}
-use mathlib.Core.Path.{◌≡◌, refl}
-use mathlib.Core.List.{List, [], ◌∷◌, ◌++◌, map}
-use lib.ListN.{length, length-append, length-map}
+use Rattle.std.proofs.Common.{ℕ, suc, ◌+◌, arith, ◌≡◌, refl, List, [], ◌∷◌, ◌++◌, map, length, length-append}
+use Rattle.std.proofs.lemmas.List.{length-map}
 use Rattle.spec_text.specs.Tree.{Expr, Exprs, Attrs, Stmt, Stmts, Methods, Tree, len_e, len_es, len_as, len_s, len_ss, len_ms, var, node, access, tuple, call, lambda, enil, econs, anil, acons, simple, assign, block, choice, for, def, class, snil, scons, mnil, mcons}
 use Rattle.work_rows.specs.Rows.{Row, global_row, rows_e, rows_es, rows_as, rows_s, rows_ss, rows_ms, rows_t}
 

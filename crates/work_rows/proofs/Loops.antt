@@ -1,12 +1,6 @@
 -- Loops over rows: the loop ends at a row past its last, and goes on at the next row before that. Each row found lies after the one
 -- before it, so any count of steps that is not below the number of rows left does.
-use Prim.Native.Nat.{ℕ, zero, suc, ◌-◌, ◌≤◌, ◌<◌}
-use native.Mathlib.Omega.{arith}
-use mathlib.Core.Path.{◌≡◌, refl, sym, ap, ◌∙◌}
-use mathlib.Core.Bool.{cond}
-use mathlib.Core.List.{List}
-use lib.Dec.{ltb}
-use borrow.Author.Tests.{lt-ltb, le-ltb}
+use Rattle.std.proofs.Common.{ℕ, zero, suc, ◌-◌, ◌≤◌, ◌<◌, arith, ◌≡◌, refl, sym, ap, ◌∙◌, cond, List, ltb, lt-ltb, le-ltb}
 use Rattle.work_rows.specs.LoopsModel.{each, rows_to, next_row}
 
 module _ {A : Type 0} (next : A → ℕ → ℕ) (f : ℕ → A → A) where

@@ -7,6 +7,3 @@ use Rattle.walk_given.proofs.define_globals.Given as goal
 abbrev pub invariant-loop-i : goal.invariant-loop-i
 invariant-loop-i l =
     globals_from (l.globals - l.i) l.i (top_of l.s) l.work ≡ globals_from l.globals 0 (top_of l.s) l.initial.work
-
-abbrev pub decreases-loop-i : goal.decreases-loop-i
-decreases-loop-i l = l.globals - l.i
