@@ -1,5 +1,4 @@
--- The definitions by their tests: a parameter that is bound, a turn and the end of the loop over the parameters, and the way into a block.
--- What is left of the parameters is what the cursor has still to take.
+-- A turn and the end of the loop over the parameters: what is left of them is what the cursor has still to take.
 use Prim.Native.Nat.{ℕ, ◌+◌}
 use mathlib.Core.Path.{◌≡◌, sym, ap, ◌∙◌}
 use mathlib.Core.Bool.{true, false}
@@ -8,24 +7,12 @@ use lib.ListN.{length}
 use Rattle.spec_text.specs.Bytes.{Bytes}
 use Rattle.read_fields.specs.FieldsModel.{field_at, next_at}
 use Rattle.read_fields.specs.declared.Cursor.{Cursor}
-use Rattle.read_names.specs.ChainsModel.{lookup}
-use Rattle.walk_scopes.specs.ScopesModel.{Scope, owns, defined}
-use Rattle.walk_own_names.specs.OwnNamesModel.{noted, flagged}
-use Rattle.read_row.specs.RowModel.{parts_from, params_of}
+use Rattle.walk_scopes.specs.ScopesModel.{Scope}
+use Rattle.read_row.specs.RowModel.{parts_from}
 use Rattle.read_row.proofs.FieldsLeft.{parts_more, parts_none}
-use Rattle.walk_blocks.specs.BlocksModel.{entered_one, entered, opened}
+use Rattle.walk_blocks.specs.BlocksModel.{entered_one, entered}
 
 module _ (text : Bytes) (s : Scope) (i : ℕ) (w : List ℕ) where
-  -- ---- a parameter is bound; a is its number
-  module _ (x : Bytes) (a : ℕ) (v : List ℕ) (p : a ≡ lookup text w x) (q : v ≡ defined s w a) where
-    pub one_owned : owns s ≡ true → (z : List ℕ) → z ≡ noted i a (i + 1) v → z ≡ entered_one text s i x w
-    unfolding entered_one
-    one_owned o z r = rw (r, q, p, o)
-
-    pub one_plain : owns s ≡ false → v ≡ entered_one text s i x w
-    unfolding entered_one
-    one_plain o = rw (q, p, o)
-
   -- ---- the parameters from the cursor c on; x is the next, and d the cursor after it
   module _ (c : Cursor) where
     pub params_turn : (x : Bytes) (d : Cursor) (z : List ℕ) → c.more ≡ true → x ≡ field_at text c.at → z ≡ entered_one text s i x w
@@ -39,13 +26,3 @@ module _ (text : Bytes) (s : Scope) (i : ℕ) (w : List ℕ) where
     pub params_end : c.more ≡ false → entered text s i (parts_from text c) w ≡ w
     unfolding entered
     params_end none = ap (λ ps. entered text s i ps w) (parts_none text c none)
-
-  -- ---- into the block of row i, up to the row stop
-  module _ (stop : ℕ) (v : List ℕ) (p : v ≡ entered text s i (params_of text w i) w) where
-    pub open_owned : owns s ≡ true → (z : List ℕ) → z ≡ flagged i (i + 1) stop v → z ≡ opened text s i stop w
-    unfolding opened
-    open_owned o z q = rw (q, p, o)
-
-    pub open_plain : owns s ≡ false → v ≡ opened text s i stop w
-    unfolding opened
-    open_plain o = rw (p, o)
