@@ -18,7 +18,7 @@ fn define_names(text: &[u8], work: &mut [u32], s: ScopeStack, bytes: &[u8], leng
     while k < lengths.len() {
         let end = at + lengths[k] as usize;
         let name = read_names::row_of(text, work, &bytes[at..end]);
-        walk_scopes::define(work, s, name);
+        s.define(work, name);
         at = end;
         k += 1;
     }
@@ -40,7 +40,7 @@ fn define_globals(work: &mut [u32], s: ScopeStack, globals: usize)
 {
     let mut i = 0;
     while i < globals {
-        walk_scopes::define(work, s, work_rows::number(work, i));
+        s.define(work, work_rows::number(work, i));
         i += 1;
     }
 }
