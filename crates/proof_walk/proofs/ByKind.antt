@@ -17,7 +17,7 @@ use Rattle.work_marks.specs.MarksModel.{put_slot, put_link}
 use Rattle.work_rows.specs.LoopsModel.{rows_to}
 use Rattle.work_rows.proofs.Loops.{rows_end, rows_more}
 use Rattle.walk_scopes.specs.declared.ScopeStack.{ScopeStack}
-use Rattle.walk_scopes.specs.ScopesModel.{module', scope_at, top_of, defined}
+use Rattle.walk_scopes.specs.ScopesModel.{module', home_number, scope_at, top_of, defined}
 use Rattle.read_row.specs.RowModel.{params_of}
 use Rattle.read_row.specs.Worded.{WordedS}
 use Rattle.walk_blocks.specs.BlocksModel.{opened}
@@ -86,7 +86,7 @@ module _ (text : Bytes) (k : ℕ) (t : ScopeStack) (i : ℕ) (w : List ℕ) (few
   at_for c m p a q = rw (lt-leb rows_most i few, c, after, add-one i, p, q) refl
 
   pub at_class : kind_at w i ≡ 13 → (a : ℕ) → number_at w i ≡ a
-      → walk_stmt (suc k) text i (walk t w) ≡ cond (eqb t.home module') (kids text k t e (suc i) (defined (top_of t) w a)) (walk t (defined (top_of t) w a))
+      → walk_stmt (suc k) text i (walk t w) ≡ cond (eqb (home_number t.home) module') (kids text k t e (suc i) (defined (top_of t) w a)) (walk t (defined (top_of t) w a))
   unfolding walk_stmt stmt_at
   at_class c a q = rw (lt-leb rows_most i few, c, after, q, add-one i) refl
 

@@ -22,11 +22,11 @@ use Rattle.work_rows.specs.Rows.{Row, row, rows_e, rows_es}
 use Rattle.work_rows.proofs.Lengths.{sized_e}
 use Rattle.work_rows.specs.LoopsModel.{rows_to}
 use Rattle.work_rows.proofs.Loops.{rows_end, rows_more}
-use Rattle.walk_scopes.specs.ScopesModel.{Scope, stack_of}
+use Rattle.walk_scopes.specs.ScopesModel.{Scope, in_lambda, stack_of}
 use Rattle.read_row.specs.Worded.{WordedE, WordedEs}
 use Rattle.walk_judge.specs.JudgeModel.{read_of}
 use Rattle.walk_blocks.specs.BlocksModel.{opened}
-use Rattle.walk_tree.specs.WalkModel.{in_lambda, walk, expr_at, walk_expr, walk_body, walk_stmts, walk_exprs}
+use Rattle.walk_tree.specs.WalkModel.{walk, expr_at, walk_expr, walk_body, walk_stmts, walk_exprs}
 use Rattle.proof_walk.specs.Table.{ParamWord, lambda as lambdaWord, Table, Here}
 use Rattle.proof_walk.specs.Notes.{OwnNames, Told}
 use Rattle.proof_walk.specs.Slots.{slots_from}

@@ -20,8 +20,7 @@ use Rattle.read_names.specs.ChainsModel.{lookup}
 use Rattle.work_rows.specs.Rows.{Row}
 use Rattle.work_marks.specs.MarksModel.{stamp_base, lambda_end, block_end, slot_at, raised_block, raised_lambda}
 use Rattle.work_marks.proofs.Writes.{Words, Kept, kept_refl, kept_trans, raised_lambda_same, raised_lambda_other, raised_lambda_block, raised_lambda_slot, raised_lambda_fourth, kept_raised_lambda, words_raised_lambda}
-use Rattle.walk_scopes.specs.ScopesModel.{Scope, a_def, owns, defined}
-use Rattle.walk_tree.specs.WalkModel.{in_lambda}
+use Rattle.walk_scopes.specs.ScopesModel.{Scope, a_def, in_lambda, owns, defined}
 use Rattle.walk_own_names.specs.OwnNamesModel.{noted, flagged}
 use Rattle.read_row.specs.RowModel.{params_of}
 use Rattle.read_row.specs.Worded.{Some, Somes}

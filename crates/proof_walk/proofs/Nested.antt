@@ -17,8 +17,10 @@ use Rattle.spec_faults.proofs.Deduped.{seen_after, seen_append}
 use Rattle.work_rows.specs.Rows.{Row, row}
 use Rattle.work_marks.specs.MarksModel.{lambda_end, block_end, slot_at, stamp_at, flag_at, link_at}
 use Rattle.work_marks.proofs.Writes.{Words, Kept, kept_trans}
+use Rattle.walk_scopes.specs.declared.Home.{Home}
+use Rattle.walk_scopes.specs.declared.Home.TheVariants.{Def, Method}
 use Rattle.walk_scopes.specs.declared.ScopeStack.{ScopeStack}
-use Rattle.walk_scopes.specs.ScopesModel.{Scope, a_def, a_method, scope_at, top_of}
+use Rattle.walk_scopes.specs.ScopesModel.{Scope, home_number as number_of, scope_at, top_of}
 use Rattle.walk_scopes.proofs.Tops.{scope_block, below_block}
 use Rattle.walk_tree.specs.WalkModel.{walk, popped}
 use Rattle.proof_walk.specs.Table.{Table, Here}
@@ -76,30 +78,30 @@ pub record Block (text : Bytes) (rows : List Row) (num : Bytes → ℕ) (own : O
   pub known : {z : List ℕ} → Table text rows num z → scope_at z t.row ≡ t
 
 -- the scope of the def or the method at a row
-abbrev pub block_of : ℕ → ℕ → ℕ → ScopeStack
+abbrev pub block_of : Home → ℕ → ℕ → ScopeStack
 block_of home r stop = record { home = home; row = r; end = stop }
 
 -- of line l, with n lines below it
 module _ {text : Bytes} {rows : List Row} {num : Bytes → ℕ} {z : List ℕ} {r n : ℕ} {l : Line} {part : List Row} (t : Table text rows num z) (h : Here rows r (row l n ∷ part)) where
-  known_by : (home : ℕ) → cond (eqb l.word 5) a_def a_method ≡ home → scope_at z r ≡ block_of home r (r + suc n)
+  known_by : (home : Home) → cond (eqb l.word 5) Def Method ≡ home → scope_at z r ≡ block_of home r (r + suc n)
   known_by home e =
-      scope_block z r (row_few t h) ∙ ap₂ (λ a b. block_of a r b) (ap (λ k. cond (eqb k 5) a_def a_method) (row_kind t h) ∙ e) (row_after t h)
+      scope_block z r (row_few t h) ∙ ap₂ (λ a b. block_of a r b) (ap (λ k. cond (eqb k 5) Def Method) (row_kind t h) ∙ e) (row_after t h)
 
-  pub known_def : l.word ≡ 5 → scope_at z r ≡ block_of a_def r (r + suc n)
-  known_def e = known_by a_def (ap (λ k. cond (eqb k 5) a_def a_method) e)
+  pub known_def : l.word ≡ 5 → scope_at z r ≡ block_of Def r (r + suc n)
+  known_def e = known_by Def (ap (λ k. cond (eqb k 5) Def Method) e)
 
-  pub known_method : l.word ≡ 14 → scope_at z r ≡ block_of a_method r (r + suc n)
-  known_method e = known_by a_method (ap (λ k. cond (eqb k 5) a_def a_method) e)
+  pub known_method : l.word ≡ 14 → scope_at z r ≡ block_of Method r (r + suc n)
+  known_method e = known_by Method (ap (λ k. cond (eqb k 5) Def Method) e)
 
 -- a pop at the end of the block brings the scope around it back
-pub popped_back : {text : Bytes} {rows : List Row} {num : Bytes → ℕ} {own : OwnNames} {t : ScopeStack} {v : Env} {z : List ℕ} (home : ℕ) {r : ℕ} (stop : ℕ) → Block text rows num own t v → Table text rows num z → r < 4_096 → link_at z r ≡ t.row
+pub popped_back : {text : Bytes} {rows : List Row} {num : Bytes → ℕ} {own : OwnNames} {t : ScopeStack} {v : Env} {z : List ℕ} (home : Home) {r : ℕ} (stop : ℕ) → Block text rows num own t v → Table text rows num z → r < 4_096 → link_at z r ≡ t.row
     → popped (walk (block_of home r stop) z) ≡ walk t z
 popped_back {z = z} home {r} stop b table few link = ap (λ u. walk u z) (below_block z (block_of home r stop) few ∙ ap (scope_at z) link ∙ b.known table)
 
 module _ {text : Bytes} {rows : List Row} {num : Bytes → ℕ} {own : OwnNames} {t : ScopeStack} {v : Env} (b : Block text rows num own t v) where
-  -- ---- the way into a block in it: at row r the walk bound or noted something, and then went in; hm is the number of the block's home
-  pub enter : {vs : List Part} {seen fs : List Fault} {w w₁ w₂ : List ℕ} {r stop : ℕ} {ps : List Part} (own' : OwnNames) (v' : Env) (hm : ℕ)
-      → Done text rows num own (top_of t) v vs seen fs w w₁ r (suc r) → Entry num r stop ps w₁ w₂ → stop ≤ t.end → hm ≡ home_number v'.home → v'.params ≡ []
+  -- ---- the way into a block in it: at row r the walk bound or noted something, and then went in; hm is the block's home
+  pub enter : {vs : List Part} {seen fs : List Fault} {w w₁ w₂ : List ℕ} {r stop : ℕ} {ps : List Part} (own' : OwnNames) (v' : Env) (hm : Home)
+      → Done text rows num own (top_of t) v vs seen fs w w₁ r (suc r) → Entry num r stop ps w₁ w₂ → stop ≤ t.end → number_of hm ≡ home_number v'.home → v'.params ≡ []
       → (v'.home ≡ in_def → (i : ℕ) → flag_at w₂ i ≡ own'.flags i) → (v'.home ≡ in_def → (x : Bytes) → mem x v'.locals ≡ note_of own'.notes x)
       → ((v'.home ≡ in_def → ⊥) → (x : Bytes) → mem x v'.locals ≡ false)
       → At text rows num own' (top_of (block_of hm r stop)) [] v' (ps ++ vs) (seen_after seen fs) w₂ (suc r)

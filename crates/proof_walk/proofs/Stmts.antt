@@ -21,7 +21,9 @@ use Rattle.work_rows.specs.LoopsModel.{rows_to}
 use Rattle.work_rows.proofs.Loops.{rows_end}
 use Rattle.work_marks.proofs.Writes.{raised_block_fourth, flag_same, flag_stamp}
 use Rattle.walk_scopes.specs.declared.ScopeStack.{ScopeStack}
-use Rattle.walk_scopes.specs.ScopesModel.{a_def, a_method, module', top_of, defined}
+use Rattle.walk_scopes.specs.ScopesModel.{module', top_of, defined}
+use Rattle.walk_scopes.specs.declared.Home.{Home as BlockHome}
+use Rattle.walk_scopes.specs.declared.Home.TheVariants.{Def, Method}
 use Rattle.walk_scopes.proofs.Defined.{defined_block}
 use Rattle.read_row.specs.Worded.{Somes, WordedE, WordedEs, WordedAs, WordedS, WordedSs, WordedMs}
 use Rattle.walk_blocks.specs.BlocksModel.{opened}
@@ -127,7 +129,7 @@ module _ (text : Bytes) (rows : List Row) (num : Bytes → ℕ) where
         plain_done l below (rows_e e ++ part) r p here h top refl (looped_then test.goes test.done (rest test.there test.done.after))
 
     -- ---- a block: x pops after its lines, which are walked in its own scope; p is what was done at its row before the row was linked
-    block_comes : (home r stop : ℕ) {x : Walk} {us ps zs vs : List Part} {seen fs gs : List Fault} {w w₁ w₂ : List ℕ} {own' : OwnNames} {v' : Env} → r < length rows → R us seen w r
+    block_comes : (home : BlockHome) (r stop : ℕ) {x : Walk} {us ps zs vs : List Part} {seen fs gs : List Fault} {w w₁ w₂ : List ℕ} {own' : OwnNames} {v' : Env} → r < length rows → R us seen w r
         → (p : D vs seen fs w w₁ r (suc r)) → Entry num r stop ps (put_link w₁ r s.row) w₂ → Flat (top_of (block_of home r stop)) v' → stop ≤ s.end
         → x ≡ popped (kids text k (block_of home r stop) stop (suc r) w₂)
         → Looped text rows num own' (top_of (block_of home r stop)) v' (kids text k (block_of home r stop) stop) zs (seen_after seen fs) gs w₂ (suc r) stop
@@ -146,7 +148,7 @@ module _ (text : Bytes) (rows : List Row) (num : Bytes → ℕ) where
 
     -- ---- a def: its name is bound, and its body is a block of its own
     abbrev def_scope : Line → Stmts → ℕ → ScopeStack
-    def_scope l bd r = block_of a_def r (r + len_s (def l bd))
+    def_scope l bd r = block_of Def r (r + len_s (def l bd))
 
     def_block : (l : Line) (bd : Stmts) (r : ℕ) (z : List ℕ) → Here rows r (rows_s (def l bd)) → l.word ≡ 5 → r + len_s (def l bd) ≤ s.end → length rows ≤ 4_096
         → Block text rows num (def_own l bd r z) (def_scope l bd r) (def_env l bd)
@@ -164,7 +166,7 @@ module _ (text : Bytes) (rows : List Row) (num : Bytes → ℕ) where
         → Looped text rows num (def_own l bd r z) (top_of (def_scope l bd r)) (def_env l bd) (kids text k (def_scope l bd r) (r + len_s (def l bd))) vs seen gs z (suc r) (r + len_s (def l bd)))
         → C (walk_stmt (suc k) text r (walk s w)) (l.name ∷ us) seen gs w r (r + len_s (def l bd))
     def_done l bd r {us} {vs} {seen} {gs} {w} here d m h rest =
-        block_comes a_def r stop inside_rows h p q (record { outer = refl; inner = refl; params = refl }) m
+        block_comes Def r stop inside_rows h p q (record { outer = refl; inner = refl; params = refl }) m
         (at_def text k s r w (row_few at here) stop (row_after at here) (row_kind at here ∙ d.0) (num l.name.bytes) (row_number at here d.1.0) top (known_def p.after.table here d.0))
         (rest w₃ inside (o.told p'.after.words))
       where
@@ -213,11 +215,11 @@ module _ (text : Bytes) (rows : List Row) (num : Bytes → ℕ) where
         q = entry_def p'.after.words o
 
         inside : At text rows num (def_own l bd r w₃) (top_of top) [] (def_env l bd) (l.params ++ (l.name ∷ us)) seen w₃ (suc r)
-        inside = enter b (def_own l bd r w₃) (def_env l bd) a_def p' q m refl refl (λ _ i. refl) (λ _ x. sym (locals x l bd r)) (λ no. absurd (no refl))
+        inside = enter b (def_own l bd r w₃) (def_env l bd) Def p' q m refl refl (λ _ i. refl) (λ _ x. sym (locals x l bd r)) (λ no. absurd (no refl))
 
     -- ---- a method of a class in the module: a block too, of which nothing is noted
     abbrev method_scope : Stmts → ℕ → ScopeStack
-    method_scope bd r = block_of a_method r (r + suc (len_ss bd))
+    method_scope bd r = block_of Method r (r + suc (len_ss bd))
 
     method_block : (l : Line) (bd : Stmts) (part : List Row) (r : ℕ) → Here rows r (row l (len_ss bd) ∷ part) → l.word ≡ 14 → r + suc (len_ss bd) ≤ s.end → length rows ≤ 4_096
         → Block text rows num no_own_names (method_scope bd r) method_env
@@ -235,7 +237,7 @@ module _ (text : Bytes) (rows : List Row) (num : Bytes → ℕ) where
         vs (seen_after seen (self_fault n l c)) gs z (suc r) (r + suc (len_ss bd)))
         → C (walk_stmt (suc k) text r (walk s w)) us seen (self_fault n l c ++ gs) w r (r + suc (len_ss bd))
     method_done l c bd part r n {us} {vs} {seen} {gs} {w} m row here word some home h rest =
-        block_comes a_method r stop inside_rows h p q (record { outer = refl; inner = refl; params = refl }) m
+        block_comes Method r stop inside_rows h p q (record { outer = refl; inner = refl; params = refl }) m
         (at_method text k s r w (row_few at here) stop (row_after at here) (row_kind at here ∙ word) l.params (row_params at here (subst ParamWord (sym word) method)) top
         (known_method p.after.table here word))
         (rest w₃ inside)
@@ -276,7 +278,7 @@ module _ (text : Bytes) (rows : List Row) (num : Bytes → ℕ) where
             (opened_method (top_of top) refl (λ i. omega arith) p'.after.table here word some (omega (arith, b.room, at.few)) stop)
 
         inside : At text rows num no_own_names (top_of top) [] method_env (l.params ++ us) (seen_after seen (self_fault n l c)) w₃ (suc r)
-        inside = enter b no_own_names method_env a_method p' q m refl refl none none (λ _ x. refl)
+        inside = enter b no_own_names method_env Method p' q m refl refl none none (λ _ x. refl)
           where
             none : {A : Type 0} → in_method ≡ in_def → A
             none i = absurd (omega (arith, ap home_number i))

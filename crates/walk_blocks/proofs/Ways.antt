@@ -1,5 +1,4 @@
--- The definitions by their tests: a parameter that is bound, a turn and the end of the loop over the parameters, and the way into a block.
--- What is left of the parameters is what the cursor has still to take.
+-- A name that no row has; a turn and the end of the loop over the parameters: what is left of them is what the cursor has still to take.
 use Rattle.std.proofs.Common.{ℕ, ◌+◌, ◌≡◌, refl, sym, ap, ◌∙◌, Bool, true, false, cond, List, length, eqb}
 use Rattle.spec_text.specs.Bytes.{Bytes}
 use Rattle.read_fields.specs.FieldsModel.{field_at, next_at}
@@ -7,22 +6,12 @@ use Rattle.read_fields.specs.declared.Cursor.{Cursor}
 use Rattle.read_names.specs.ChainsModel.{lookup}
 use Rattle.work_marks.specs.MarksModel.{raised_block, raised_lambda}
 use Rattle.walk_scopes.specs.ScopesModel.{Scope, owns, defined}
-use Rattle.walk_own_names.specs.OwnNamesModel.{noted, flagged}
-use Rattle.read_row.specs.RowModel.{parts_from, params_of}
+use Rattle.walk_own_names.specs.OwnNamesModel.{noted}
+use Rattle.read_row.specs.RowModel.{parts_from}
 use Rattle.read_row.proofs.FieldsLeft.{parts_more, parts_none}
-use Rattle.walk_blocks.specs.BlocksModel.{entered_one, entered, opened}
+use Rattle.walk_blocks.specs.BlocksModel.{entered_one, entered}
 
 module _ (text : Bytes) (s : Scope) (i : ℕ) (w : List ℕ) where
-  -- ---- a parameter is bound; a is its number
-  module _ (x : Bytes) (a : ℕ) (v : List ℕ) (p : a ≡ lookup text w x) (q : v ≡ defined s w a) where
-    pub one_owned : owns s ≡ true → (z : List ℕ) → z ≡ noted i a (i + 1) v → z ≡ entered_one text s i x w
-    unfolding entered_one
-    one_owned o z r = rw (r, q, p, o)
-
-    pub one_plain : owns s ≡ false → v ≡ entered_one text s i x w
-    unfolding entered_one
-    one_plain o = rw (q, p, o)
-
   -- ---- a name that no row has
   either : (t : Bool) → cond t w w ≡ w
   either true = refl
@@ -50,13 +39,3 @@ module _ (text : Bytes) (s : Scope) (i : ℕ) (w : List ℕ) where
     pub params_end : c.more ≡ false → entered text s i (parts_from text c) w ≡ w
     unfolding entered
     params_end none = ap (λ ps. entered text s i ps w) (parts_none text c none)
-
-  -- ---- into the block of row i, up to the row stop
-  module _ (stop : ℕ) (v : List ℕ) (p : v ≡ entered text s i (params_of text w i) w) where
-    pub open_owned : owns s ≡ true → (z : List ℕ) → z ≡ flagged i (i + 1) stop v → z ≡ opened text s i stop w
-    unfolding opened
-    open_owned o z q = rw (q, p, o)
-
-    pub open_plain : owns s ≡ false → v ≡ opened text s i stop w
-    unfolding opened
-    open_plain o = rw (p, o)

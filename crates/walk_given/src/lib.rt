@@ -15,7 +15,7 @@ fn define_builtins(text: &[u8], work: &mut [u32], s: ScopeStack)
 {
     for name in walk_builtins::names() {
         if let Some(row) = read_names::row_of(text, work, name) {
-            walk_scopes::define(work, s, row);
+            s.define(work, row);
         }
     }
 }
@@ -26,7 +26,7 @@ fn define_globals(work: &mut [u32], s: ScopeStack, globals: usize)
     ensures { work.new ≡ globals_from globals 0 (top_of s) work.old }
 {
     for i in 0..globals {
-        walk_scopes::define(work, s, work_rows::number(work, i));
+        s.define(work, work_rows::number(work, i));
     }
 }
 

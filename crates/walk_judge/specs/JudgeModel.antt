@@ -1,8 +1,14 @@
 -- What a read does to the work buffer: the kind of its fault goes to its row's slot.
-use Rattle.std.specs.Prelude.{ℕ, Bool, cond, List, eqb, ltb}
+use Rattle.std.specs.Prelude.{ℕ, Bool, true, false, cond, List, eqb, ltb}
 use Rattle.spec_faults.specs.Faults.{capture}
 use Rattle.work_marks.specs.MarksModel.{lambda_end, raised_lambda, put_slot, flag_at}
 use Rattle.walk_scopes.specs.ScopesModel.{Scope, a_def, module', is_defined}
+use Rattle.walk_judge.specs.declared.Use.{Use}
+use Rattle.walk_judge.specs.declared.Use.TheVariants.{Value, Callee}
+
+abbrev pub is_called : Use → Bool
+is_called Value = false
+is_called Callee = true
 
 -- "Kind 12 if it is a callee, else 11; under a lambda, 13."
 unfoldable pub unbound_kind : ℕ → Bool → ℕ

@@ -3,90 +3,89 @@
 
 ghost use Rattle.std.specs.Prelude.{◌≡◌, ◌<◌};
 ghost use Rattle.spec_faults.specs.Faults.{lacks_self};
+ghost use Rattle.spec_faults.specs.Kinds.{kind_number};
 ghost use Rattle.read_row.specs.RowModel.{params_of};
-ghost use Rattle.walk_judge.specs.JudgeModel.{unbound_kind, undefined_kind, faulted, flag_in, read_of};
-ghost use Rattle.walk_scopes.specs.ScopesModel.{scope_of};
+ghost use Rattle.work_marks.specs.Signs.{own_by_number};
+ghost use Rattle.walk_judge.specs.JudgeModel.{unbound_kind, undefined_kind, faulted, flag_in, read_of, is_called};
+ghost use Rattle.walk_scopes.specs.ScopesModel.{home_number, scope_of};
 
-use spec_faults::fault_kind;
-use walk_scopes::{HOME_DEF, HOME_MODULE, Lambdas, ScopeStack};
-use work_marks::{ASSIGNED, NOT_OWN, UNASSIGNED};
+use spec_faults::FaultKind;
+use walk_scopes::{Home, Scope};
+use work_marks::Own;
+
+// What an expression is read for.
+#[derive(Clone, Copy)]
+pub enum Use {
+    Value,
+    Callee,
+}
 
 // The kind of a fault of an own name that is not assigned.
 #[tactic(auto, unfolding(crate::specs::JudgeModel::unbound_kind))]
-fn unbound_kind(l: Lambdas, called: bool) -> usize
-    ensures { result ≡ unbound_kind l.outer called }
+fn unbound_kind(scope: &Scope, used: Use) -> FaultKind
+    ensures { kind_number result ≡ unbound_kind (scope_of scope.now).outer (is_called used) }
 {
-    if l.outer != 0 {
-        return fault_kind::UNBOUND_CAPTURE;
-    }
-    if called {
-        fault_kind::UNBOUND_FUNCTION
-    } else {
-        fault_kind::UNBOUND_VARIABLE
+    match (scope.lambdas, used) {
+        (Some(_), _) => FaultKind::UnboundCapture,
+        (None, Use::Callee) => FaultKind::UnboundFunction,
+        (None, Use::Value) => FaultKind::UnboundVariable,
     }
 }
 
 // The kind of a fault of a name that is not in view.
 #[tactic(auto, unfolding(crate::specs::JudgeModel::undefined_kind))]
-fn undefined_kind(s: ScopeStack, l: Lambdas, called: bool) -> usize
-    ensures { result ≡ undefined_kind s.home l.outer called }
+fn undefined_kind(scope: &Scope, used: Use) -> FaultKind
+    ensures { kind_number result ≡ undefined_kind (scope_of scope.now).home (scope_of scope.now).outer (is_called used) }
 {
-    if l.outer != 0 {
-        if s.home == HOME_MODULE {
-            return fault_kind::UNDEFINED_CAPTURE;
-        }
-    }
-    if called {
-        fault_kind::UNDEFINED_FUNCTION
-    } else {
-        fault_kind::UNDEFINED_VARIABLE
+    match (scope.top.home, scope.lambdas, used) {
+        (Home::Module, Some(_), _) => FaultKind::UndefinedCapture,
+        (_, _, Use::Callee) => FaultKind::UndefinedFunction,
+        (_, _, Use::Value) => FaultKind::UndefinedVariable,
     }
 }
 
 // Row i has a fault of this kind. A name that a lambda is blamed for counts as its parameter from there on: it is blamed once.
-#[tactic(auto, unfolding(crate::specs::JudgeModel::faulted))]
-fn fault(work: &mut [u32], l: Lambdas, name: usize, i: usize, kind: usize)
-    requires { i < 4294967296 }
-    ensures { work.new ≡ faulted l.outer name i kind work.old }
+#[tactic(auto, unfolding(crate::specs::JudgeModel::faulted, work_marks::specs::MarksModel::raised_lambda))]
+fn fault(work: &mut [u32], scope: &Scope, name: usize, i: usize, kind: FaultKind)
+    ensures { work.new ≡ faulted (scope_of scope.now).outer name i (kind_number kind) work.old }
 {
     work_marks::put_slot(work, i, kind);
-    if kind == fault_kind::UNDEFINED_CAPTURE || kind == fault_kind::UNBOUND_CAPTURE {
-        work_marks::raise_lambda(work, name, l.outer);
+    match (kind, scope.lambdas) {
+        (FaultKind::UndefinedCapture | FaultKind::UnboundCapture, Some(l)) => {
+            work_marks::raise_lambda(work, name, l.outer)
+        }
+        _ => {}
     }
 }
 
 // How the name of row i stands to the def that is its home; to another home it is no own name.
 #[tactic(auto, unfolding(crate::specs::JudgeModel::flag_in))]
-fn flag_in(work: &[u32], s: ScopeStack, i: usize) -> usize
-    requires { i < 4294967296 }
-    ensures { result ≡ flag_in s.home work.now i }
+fn own_in(work: &[u32], home: Home, i: usize) -> Own
+    ensures { result ≡ own_by_number (flag_in (home_number home) work.now i) }
 {
-    if s.home == HOME_DEF {
-        return work_marks::flag(work, i);
+    match home {
+        Home::Def => work_marks::flag(work, i),
+        Home::Module | Home::Method => Own::NotOwn,
     }
-    NOT_OWN
 }
 
 // Judges the read at row i, of a name.
-pub fn judge_read(work: &mut [u32], s: ScopeStack, l: Lambdas, called: bool, name: usize, i: usize)
-    requires { (i < 4294967296) × (name < 4294967296) }
-    ensures { work.new ≡ read_of (scope_of s l) called name i work.old }
+#[tactic(auto, unfolding(crate::specs::JudgeModel::read_of))]
+pub fn judge_read(work: &mut [u32], scope: &Scope, used: Use, name: usize, i: usize)
+    ensures { work.new ≡ read_of (scope_of scope.now) (is_called used) name i work.old }
 {
     if i < work_marks::lambda_end(work, name) {
         return;
     }
-    let flag = flag_in(work, s, i);
-    if flag == ASSIGNED {
-        return;
+    match own_in(work, scope.top.home, i) {
+        Own::Assigned => {}
+        Own::Unassigned => fault(work, scope, name, i, unbound_kind(scope, used)),
+        Own::NotOwn => {
+            if !scope.top.is_defined(work, name, i) {
+                fault(work, scope, name, i, undefined_kind(scope, used));
+            }
+        }
     }
-    if flag == UNASSIGNED {
-        fault(work, l, name, i, unbound_kind(l, called));
-        return;
-    }
-    if walk_scopes::is_defined(work, s, name, i) {
-        return;
-    }
-    fault(work, l, name, i, undefined_kind(s, l, called))
 }
 
 // Whether the method at row i has no parameter, or another first one than `self`.

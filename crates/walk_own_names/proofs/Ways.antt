@@ -1,44 +1,17 @@
--- The definitions by their tests: a stamp that stays or is written, what a row binds by its kind, the next row by its kind, a flag by the
--- stamp, and the turns of the loops. Each next row lies after the row, so the loops' laws hold.
+-- The definitions by their tests: what a row binds by its kind, the next row by its kind, a flag, and the turns of the loops. Each next row
+-- lies after the row, so the loops' laws hold.
 use Prim.Native.Nat.{ℕ, ◌+◌, ◌≤◌, ◌<◌}
 use native.Mathlib.Omega.{arith}
-use mathlib.Core.Path.{◌≡◌, refl, ap}
+use mathlib.Core.Path.{◌≡◌, ap}
 use mathlib.Core.Bool.{Bool, true, false, cond, ◌&&◌, ◌||◌}
 use mathlib.Core.List.{List}
 use mathlib.Core.Logic.{◌⊎◌, inl, inr}
-use lib.Dec.{eqb, leb, ltb}
-use borrow.Author.Tests.{lt-ltb, le-ltb, eq-eqb, ne_eqb, le-leb, lt-leb, ltb-true}
-use Rattle.work_rows.specs.Layout.{rows_most, kind_at, number_at, same_at, after_row}
-use Rattle.work_marks.specs.MarksModel.{stamp_at, put_stamp, put_flag, never}
+use lib.Dec.{eqb, leb}
+use borrow.Author.Tests.{eq-eqb, ne_eqb, le-leb, lt-leb}
+use Rattle.work_rows.specs.Layout.{kind_at, number_at, after_row}
+use Rattle.work_marks.specs.MarksModel.{stamp_at, put_flag, never}
 use Rattle.work_rows.proofs.Loops.{rows_turn}
-use Rattle.walk_own_names.specs.OwnNamesModel.{binds, row_binds, next_binding, all_bindings, noted, flag_for, row_flagged, next_in_block, all_flagged}
-
--- the number of a row's name is a row before the last, or the row itself
-pub number_low : (w : List ℕ) (i : ℕ) → number_at w i < rows_most + i + 1
-number_low w i = go (ltb (same_at w i) rows_most) refl
-  where
-    go : (t : Bool) → ltb (same_at w i) rows_most ≡ t → cond t (same_at w i) i < rows_most + i + 1
-    go true e = omega (arith, ltb-true (same_at w i) rows_most e)
-    go false e = omega arith
-
--- ---- a name is stamped
-module _ (b a from : ℕ) (w : List ℕ) where
-  pub noted_none : rows_most ≤ a → noted b a from w ≡ w
-  unfolding noted
-  noted_none l = rw (le-ltb a rows_most l)
-
-  module _ (l : a < rows_most) where
-    pub noted_stays : b < stamp_at w a → stamp_at w a ≤ from → noted b a from w ≡ w
-    unfolding noted
-    noted_stays e m = rw (lt-ltb a rows_most l, lt-ltb b (stamp_at w a) e, le-leb (stamp_at w a) from m)
-
-    pub noted_first : b < stamp_at w a → from < stamp_at w a → noted b a from w ≡ put_stamp w a from
-    unfolding noted
-    noted_first e m = rw (lt-ltb a rows_most l, lt-ltb b (stamp_at w a) e, lt-leb (stamp_at w a) from m)
-
-    pub noted_new : stamp_at w a ≤ b → noted b a from w ≡ put_stamp w a from
-    unfolding noted
-    noted_new d = rw (lt-ltb a rows_most l, le-ltb b (stamp_at w a) d)
+use Rattle.walk_own_names.specs.OwnNamesModel.{row_binds, next_binding, all_bindings, flag_for, row_flagged, next_in_block, all_flagged}
 
 -- ---- what row i binds, by its kind
 module _ (op : ℕ → ℕ → List ℕ → List ℕ) (i : ℕ) (w : List ℕ) where
@@ -67,21 +40,6 @@ module _ (op : ℕ → ℕ → List ℕ → List ℕ) (i : ℕ) (w : List ℕ) w
   unfolding row_binds
   row_none p q r s = rw (ne_eqb (kind_at w i) 5 p, ne_eqb (kind_at w i) 13 q, ne_eqb (kind_at w i) 10 r, ne_eqb (kind_at w i) 17 s)
 
--- where what is done does not depend on the row from which the name is assigned
-module _ (op : ℕ → List ℕ → List ℕ) (i : ℕ) (w : List ℕ) where
-  abbrev one_way : Bool → Bool → Bool → Bool → List ℕ
-  one_way s t u v = cond (s || t) (op (number_at w i) w) (cond u (op (number_at w i) w) (cond v (op (number_at w i) w) w))
-
-  any_kind : (s t u v : Bool) → one_way s t u v ≡ cond (s || (t || (u || v))) (op (number_at w i) w) w
-  any_kind true t u v = refl
-  any_kind false true u v = refl
-  any_kind false false true v = refl
-  any_kind false false false v = refl
-
-  pub row_any : row_binds (λ a _. op a) i w ≡ cond (binds (kind_at w i)) (op (number_at w i) w) w
-  unfolding row_binds
-  row_any = any_kind (eqb (kind_at w i) 5) (eqb (kind_at w i) 13) (eqb (kind_at w i) 10) (eqb (kind_at w i) 17)
-
 -- ---- the next row, by the row's kind
 module _ (w : List ℕ) (i : ℕ) where
   pub next_past : 6 ≤ kind_at w i → kind_at w i ≤ 10 → next_binding w i ≡ after_row w (i + 1)
@@ -97,7 +55,7 @@ module _ (w : List ℕ) (i : ℕ) where
   next_after (inl l) d = rw (lt-leb 6 (kind_at w i) l, ne_eqb (kind_at w i) 24 d)
   next_after (inr l) d = rw (le-leb 6 (kind_at w i) (omega arith), lt-leb (kind_at w i) 10 l, ne_eqb (kind_at w i) 24 d)
 
-  next_on : i < next_binding w i
+  pub next_on : i < next_binding w i
   unfolding next_binding
   next_on = go (leb 6 (kind_at w i) && leb (kind_at w i) 10) (eqb (kind_at w i) 24)
     where
@@ -116,7 +74,7 @@ module _ (w : List ℕ) (i : ℕ) where
   unfolding next_in_block
   block_next p q = rw (ne_eqb (kind_at w i) 5 p, ne_eqb (kind_at w i) 13 q)
 
-  block_on : i < next_in_block w i
+  pub block_on : i < next_in_block w i
   unfolding next_in_block
   block_on = go (eqb (kind_at w i) 5 || eqb (kind_at w i) 13)
     where
@@ -125,16 +83,6 @@ module _ (w : List ℕ) (i : ℕ) where
       go false = omega arith
 
 -- ---- a flag
-module _ (b i from : ℕ) where
-  pub flag_none : from ≤ b → flag_for b i from ≡ 0
-  flag_none l = rw (le-leb from b l)
-
-  pub flag_early : b < from → i < from → flag_for b i from ≡ 2
-  flag_early l m = rw (lt-leb from b l, lt-ltb i from m)
-
-  pub flag_late : b < from → from ≤ i → flag_for b i from ≡ 1
-  flag_late l m = rw (lt-leb from b l, le-ltb i from m)
-
 module _ (b i : ℕ) (w : List ℕ) where
   pub flagged_var : kind_at w i ≡ 17 → row_flagged b i w ≡ put_flag w i (flag_for b i (stamp_at w (number_at w i)))
   unfolding row_flagged

@@ -1,13 +1,17 @@
 -- A def's own names: gathered over the rows of its body, each with a stamp, the first row from which it is assigned; then each `var` of the
 -- block is flagged, and the stamps are forgotten. Nested defs and classes are stepped over.
-use Rattle.std.specs.Prelude.{ℕ, ◌+◌, Bool, cond, ◌&&◌, ◌||◌, List, eqb, leb, ltb}
+use Rattle.std.specs.Prelude.{ℕ, ◌+◌, cond, ◌&&◌, ◌||◌, List, eqb, leb, ltb, Option, None, Some}
 use Rattle.work_rows.specs.Layout.{rows_most, kind_at, number_at, after_row}
 use Rattle.work_marks.specs.MarksModel.{stamp_at, put_stamp, put_flag, never}
 use Rattle.work_rows.specs.LoopsModel.{rows_to}
 
 -- ---- rows that bind a name: 5 def, 13 class, 10 for, 17 a `var` that is a target
-abbrev pub binds : ℕ → Bool
-binds k = eqb k 5 || (eqb k 13 || (eqb k 10 || eqb k 17))
+-- the row from which the name that row i binds is assigned
+abbrev pub assigned_from : List ℕ → ℕ → Option ℕ
+assigned_from w i =
+    cond (eqb (kind_at w i) 5 || eqb (kind_at w i) 13) (Some never)
+    (cond (eqb (kind_at w i) 10) (Some (after_row w (i + 1)))
+    (cond (eqb (kind_at w i) 17) (Some (i + 1)) None))
 
 -- `op` is done to the number of the name that row i binds, and to the row from which it is assigned
 unfoldable pub row_binds : (ℕ → ℕ → List ℕ → List ℕ) → ℕ → List ℕ → List ℕ

@@ -3,13 +3,15 @@
 // it is assigned; then the flags are set, and the stamps are forgotten. A stamp that does not come after the def's row is an old one.
 #![tactic(auto)]
 
-ghost use Rattle.std.specs.Prelude.{◌≡◌, ◌<◌, ◌≤◌};
+ghost use Rattle.std.specs.Prelude.{◌≡◌, ◌<◌, ◌≤◌, ℕ, List};
 ghost use Rattle.work_rows.specs.Layout.{number_at};
+ghost use Rattle.work_rows.specs.LoopsModel.{rows_to};
 ghost use Rattle.work_marks.specs.MarksModel.{stamp_at};
-ghost use Rattle.walk_own_names.specs.OwnNamesModel.{noted, forgot, row_binds, next_binding, all_bindings, binds, flag_for, row_flagged, next_in_block, all_flagged, flagged};
+ghost use Rattle.work_marks.specs.Signs.{own_number};
+ghost use Rattle.walk_own_names.specs.OwnNamesModel.{noted, forgot, row_binds, assigned_from, next_binding, flag_for, row_flagged, next_in_block, flagged};
 
 use spec_text::line_kind;
-use work_marks::{ASSIGNED, NEVER, NOT_OWN, UNASSIGNED};
+use work_marks::{NEVER, Own};
 use work_rows::ROWS_MOST;
 
 // The def at row b has the name of its own, assigned from a row on.
@@ -19,12 +21,36 @@ pub fn note_name(work: &mut [u32], b: usize, name: usize, from: usize)
 {
     if name < ROWS_MOST {
         let old = work_marks::stamp(work, name);
-        if b < old {
-            if old <= from {
-                return;
-            }
+        if old <= b || from < old {
+            work_marks::put_stamp(work, name, from);
         }
-        work_marks::put_stamp(work, name, from);
+    }
+}
+
+// The row from which the name that row i binds is assigned; a `var` is a target. None if it binds no name.
+fn assigned_from(work: &[u32], i: usize) -> Option<usize>
+    requires { i ≤ 16384 }
+    ensures { result ≡ assigned_from work.now i }
+{
+    match work_rows::kind(work, i) {
+        line_kind::DEF | line_kind::CLASS => Some(NEVER),
+        line_kind::FOR => Some(work_rows::after_row(work, i + 1)),
+        line_kind::VAR => Some(i + 1),
+        _ => None,
+    }
+}
+
+// The next row that may bind a name in the block: past nested defs and classes, and past expressions that are no targets.
+#[tactic(auto, unfolding(crate::specs::OwnNamesModel::next_binding))]
+fn next_binding(work: &[u32], i: usize) -> usize
+    requires { i ≤ 16384 }
+    ensures next { result ≡ next_binding work.now i }
+    ensures after { i < result }
+{
+    match work_rows::kind(work, i) {
+        line_kind::ASSIGN..=line_kind::FOR => work_rows::after_row(work, i + 1),
+        line_kind::TUPLE => i + 1,
+        _ => work_rows::after_row(work, i),
     }
 }
 
@@ -34,26 +60,9 @@ fn note_row(work: &mut [u32], b: usize, i: usize)
     requires { i ≤ 16384 }
     ensures { work.new ≡ row_binds (noted b) i work.old }
 {
-    match work_rows::kind(work, i) {
-        line_kind::DEF => note_name(work, b, work_rows::number(work, i), NEVER),
-        line_kind::CLASS => note_name(work, b, work_rows::number(work, i), NEVER),
-        line_kind::FOR => note_name(
-            work,
-            b,
-            work_rows::number(work, i),
-            work_rows::after_row(work, i + 1),
-        ),
-        line_kind::VAR => note_name(work, b, work_rows::number(work, i), i + 1),
-        _ => {}
+    if let Some(from) = assigned_from(work, i) {
+        note_name(work, b, work_rows::number(work, i), from);
     }
-}
-
-// Whether a row of this kind binds a name, a `var` being a target.
-fn is_binding(kind: usize) -> bool
-    ensures { result ≡ binds kind }
-{
-    kind == line_kind::DEF
-        || (kind == line_kind::CLASS || (kind == line_kind::FOR || kind == line_kind::VAR))
 }
 
 // Forgets what was noted of row i.
@@ -62,63 +71,24 @@ fn forget_row(work: &mut [u32], i: usize)
     requires { i ≤ 16384 }
     ensures { work.new ≡ row_binds forgot i work.old }
 {
-    if is_binding(work_rows::kind(work, i)) {
+    if assigned_from(work, i).is_some() {
         work_marks::put_stamp(work, work_rows::number(work, i), 0);
     }
 }
 
-// The next row that may bind a name in the block: past nested defs and classes, and past expressions that are no targets.
-#[tactic(auto, unfolding(crate::specs::OwnNamesModel::next_binding))]
-fn next_binding(work: &[u32], i: usize) -> usize
-    requires { i ≤ 16384 }
-    ensures { (result ≡ next_binding work.now i) × (i < result) }
-{
-    let kind = work_rows::kind(work, i);
-    if line_kind::ASSIGN <= kind && kind <= line_kind::FOR {
-        return work_rows::after_row(work, i + 1);
-    }
-    if kind == line_kind::TUPLE {
-        return i + 1;
-    }
-    work_rows::after_row(work, i)
-}
-
-// Notes what the rows bind in the block of the def at row b.
-fn collect_locals(work: &mut [u32], b: usize, first: usize, stop: usize)
-    requires { stop ≤ 16384 }
-    ensures { work.new ≡ all_bindings (noted b) first stop work.old }
-{
-    let mut at = first;
-    while at < stop {
-        let next = next_binding(work, at);
-        note_row(work, b, at);
-        at = next;
-    }
-}
-
-// Forgets what was noted of them.
-fn forget_locals(work: &mut [u32], first: usize, stop: usize)
-    requires { stop ≤ 16384 }
-    ensures { work.new ≡ all_bindings forgot first stop work.old }
-{
-    let mut at = first;
-    while at < stop {
-        let next = next_binding(work, at);
-        forget_row(work, at);
-        at = next;
-    }
-}
-
 // How the name of row i stands to the def at row b.
-fn flag_of(work: &[u32], b: usize, i: usize) -> usize
+fn flag_of(work: &[u32], b: usize, i: usize) -> Own
     requires { i ≤ 16384 }
-    ensures { result ≡ flag_for b i (stamp_at work.now (number_at work.now i)) }
+    ensures { own_number result ≡ flag_for b i (stamp_at work.now (number_at work.now i)) }
 {
     let from = work_marks::stamp(work, work_rows::number(work, i));
     if from <= b {
-        return NOT_OWN;
+        Own::NotOwn
+    } else if i < from {
+        Own::Unassigned
+    } else {
+        Own::Assigned
     }
-    if i < from { UNASSIGNED } else { ASSIGNED }
 }
 
 // Flags row i, if it is a `var`.
@@ -136,25 +106,37 @@ fn flag_row(work: &mut [u32], b: usize, i: usize)
 #[tactic(auto, unfolding(crate::specs::OwnNamesModel::next_in_block))]
 fn next_in_block(work: &[u32], i: usize) -> usize
     requires { i ≤ 16384 }
-    ensures { (result ≡ next_in_block work.now i) × (i < result) }
+    ensures next { result ≡ next_in_block work.now i }
+    ensures after { i < result }
 {
-    let kind = work_rows::kind(work, i);
-    if kind == line_kind::DEF || kind == line_kind::CLASS {
-        return work_rows::after_row(work, i);
+    match work_rows::kind(work, i) {
+        line_kind::DEF | line_kind::CLASS => work_rows::after_row(work, i),
+        _ => i + 1,
     }
-    i + 1
 }
 
-// Flags the rows in the block of the def at row b.
-fn flag_rows(work: &mut [u32], b: usize, first: usize, stop: usize)
-    requires { stop ≤ 16384 }
-    ensures { work.new ≡ all_flagged b first stop work.old }
+// One row after the other, from `first` up to `stop`: what is done at a row, and which row is next.
+fn each_row<N: Fn(&[u32], usize) -> usize, F: Fn(&mut [u32], usize)>(
+    work: &mut [u32],
+    first: usize,
+    stop: usize,
+    next: N,
+    row: F,
+)
+    requires next_callable { (v : _) (i : ℕ) → i < stop → N.pre next v i }
+    requires next_after { (v : _) (i j : ℕ) → N.post next v i j → i < j }
+    requires row_callable { (v : _) (i : ℕ) → i < stop → F.pre row v i }
+    ensures { (n : List ℕ → ℕ → ℕ) (f : ℕ → List ℕ → List ℕ)
+        → ((v : List ℕ) (i : ℕ) → i < n v i)
+        → ((v : _) (i j : ℕ) → N.post next v i j → j ≡ n v.now i)
+        → ((v w : _) (i : ℕ) → F.post row v i tt w → w.now ≡ f i v.now)
+        → work.new ≡ rows_to n f first stop work.old }
 {
     let mut at = first;
     while at < stop {
-        let next = next_in_block(work, at);
-        flag_row(work, b, at);
-        at = next;
+        let after = next(work, at);
+        row(work, at);
+        at = after;
     }
 }
 
@@ -163,7 +145,7 @@ pub fn flag_block(work: &mut [u32], b: usize, first: usize, stop: usize)
     requires { stop ≤ 16384 }
     ensures { work.new ≡ flagged b first stop work.old }
 {
-    collect_locals(work, b, first, stop);
-    flag_rows(work, b, first, stop);
-    forget_locals(work, first, stop)
+    each_row(work, first, stop, next_binding, |w, i| note_row(w, b, i));
+    each_row(work, first, stop, next_in_block, |w, i| flag_row(w, b, i));
+    each_row(work, first, stop, next_binding, |w, i| forget_row(w, i))
 }

@@ -3,7 +3,7 @@ use Prim.Native.Nat.{ℕ}
 use mathlib.Core.Path.{◌≡◌, ap}
 use mathlib.Core.Bool.{cond}
 use mathlib.Core.List.{List}
-use borrow.Author.Tests.{eq-eqb, ne_eqb}
+use borrow.Author.Tests.{eq-eqb}
 use Rattle.work_marks.specs.MarksModel.{raised_block, raised_lambda}
 use Rattle.walk_scopes.specs.ScopesModel.{Scope, defined}
 
@@ -11,7 +11,3 @@ module _ (s : Scope) (w : List ℕ) (a : ℕ) where
   pub defined_block : s.inner ≡ 0 → defined s w a ≡ raised_block w a s.end
   unfolding defined
   defined_block e = ap (λ t. cond t (raised_block w a s.end) (raised_lambda w a s.inner)) (eq-eqb s.inner 0 e)
-
-  pub defined_lambda : (s.inner ≡ 0 → ⊥) → defined s w a ≡ raised_lambda w a s.inner
-  unfolding defined
-  defined_lambda d = ap (λ t. cond t (raised_block w a s.end) (raised_lambda w a s.inner)) (ne_eqb s.inner 0 d)

@@ -6,7 +6,7 @@ use Rattle.spec_faults.specs.Faults.{lacks_self}
 use Rattle.work_rows.specs.Layout.{rows_most, kind_at, number_at, after_row}
 use Rattle.work_marks.specs.MarksModel.{put_slot, put_link}
 use Rattle.work_rows.specs.LoopsModel.{rows_to}
-use Rattle.walk_scopes.specs.ScopesModel.{Scope, module', at_module, scope_at, below, within, scope_of, top_of, stack_of, defined}
+use Rattle.walk_scopes.specs.ScopesModel.{Scope, module', home_number, at_module, scope_at, below, in_lambda, top_of, stack_of, defined}
 use Rattle.walk_scopes.specs.declared.ScopeStack.{ScopeStack}
 use Rattle.read_row.specs.RowModel.{params_of}
 use Rattle.walk_judge.specs.JudgeModel.{read_of}
@@ -25,10 +25,6 @@ target_at value s i w =
     (cond (eqb (kind_at w i) 22) (rows_to after_row value (i + 1) (after_row w i) w) (put_slot w i 14))))
 
 -- ---- expressions, by their kind: 17 var, 21 call, 28 lambda; `value` walks an expression, `body` that of a lambda
--- in a lambda up to the row end
-abbrev pub in_lambda : Scope → ℕ → Scope
-in_lambda s end = scope_of (stack_of s) (within (record { outer = s.outer; inner = s.inner }) end)
-
 unfoldable pub expr_at : (Bool → Scope → ℕ → List ℕ → List ℕ) → (Scope → ℕ → List ℕ → List ℕ) → Bytes → Scope → Bool → ℕ → List ℕ → List ℕ
 expr_at value body text s called i w =
     cond (eqb (kind_at w i) 17) (read_of s called (number_at w i) i w)
@@ -84,7 +80,7 @@ stmt_at value line text i t w =
     (cond (eqb (kind_at w i) 10)
     (rows_to next_line line (after_row w (i + 1)) (after_row w i) (walk t (defined (top_of t) (value false (top_of t) (i + 1) w) (number_at w i))))
     (cond (eqb (kind_at w i) 13)
-    (cond (eqb t.home module') (rows_to next_line line (i + 1) (after_row w i) (walk t (defined (top_of t) w (number_at w i)))) (walk t (defined (top_of t) w (number_at w i))))
+    (cond (eqb (home_number t.home) module') (rows_to next_line line (i + 1) (after_row w i) (walk t (defined (top_of t) w (number_at w i)))) (walk t (defined (top_of t) w (number_at w i))))
     (cond (eqb (kind_at w i) 15) (walk t w) (rows_to next_line line (i + 1) (after_row w i) (walk t w))))))
 
 -- a line of either sort: from 16 on it is an expression
@@ -121,6 +117,12 @@ walk_stmts k text at stop x = rows_to next_line (walk_line k text) at stop x
 
 abbrev pub walk_exprs : ℕ → Bytes → Scope → ℕ → ℕ → List ℕ → List ℕ
 walk_exprs k text s at stop w = rows_to after_row (walk_expr k text false s) at stop w
+
+abbrev pub walk_target : ℕ → Bytes → Scope → ℕ → List ℕ → List ℕ
+walk_target k text s i w = target_at (walk_expr k text false s) s i w
+
+abbrev pub walk_targets : ℕ → Bytes → Scope → ℕ → ℕ → List ℕ → List ℕ
+walk_targets k text s at stop w = rows_to next_target (walk_target k text s) at stop w
 
 -- ---- the whole tree, of so many `global` lines and so many rows
 unfoldable pub walked : Bytes → ℕ → ℕ → List ℕ → List ℕ

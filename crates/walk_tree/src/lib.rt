@@ -1,59 +1,49 @@
 // The walk over the rows of a tree: statements, lists of statements, expressions and lists of expressions call each other, and the number of
-// lines left falls at each call. Names are marked where they are bound, and the kind of a row's fault goes to its slot. Statements are handed the
-// stack of scopes and hand it back; expressions are handed it, with the lambdas around them, and hand back none.
+// lines left falls at each call. Names are marked where they are bound, and the kind of a row's fault goes to its slot. Statements are lent the
+// stack of scopes; expressions are lent where they stand, and change nothing of it.
 // `left` is the number of rows at the start, and one less at each level. The lines around a line are other rows, one a level: so a line
 // of a tree that was read is never met with none left. The test for 0 is there so that the walk ends on any numbers.
 #![tactic(auto)]
 
-ghost use Rattle.std.specs.Prelude.{◌≡◌, false, ◌<◌, ◌≤◌, length};
-ghost use Rattle.work_rows.specs.LoopsModel.{rows_to};
+ghost use Rattle.std.specs.Prelude.{◌≡◌, ◌<◌, ◌≤◌, length};
 ghost use Rattle.walk_scopes.specs.ScopesModel.{scope_of, top_of};
-ghost use Rattle.walk_tree.specs.WalkModel.{walk, next_target, target_at, walk_expr, walk_stmt, walk_exprs, walk_stmts, is_block, method_at, head_at, block_at, walk_line, walk_body, walked};
+ghost use Rattle.walk_judge.specs.JudgeModel.{is_called};
+ghost use Rattle.walk_tree.specs.WalkModel.{walk, next_target, method_at, head_at, block_at, walk_target, walk_targets, walk_expr, walk_exprs, walk_stmt, walk_stmts, walk_line, walk_body, walked};
 
-use spec_faults::fault_kind;
+use spec_faults::FaultKind;
 use spec_text::line_kind;
-use walk_scopes::{HOME_MODULE, Lambdas, ScopeStack};
+use walk_judge::Use;
+use walk_scopes::{Home, Scope, ScopeStack};
 use work_rows::ROWS_MOST;
 
 // The row of the next target.
+#[tactic(auto, unfolding(crate::specs::WalkModel::next_target))]
 fn next_target(work: &[u32], i: usize) -> usize
     requires { i ≤ 16384 }
-    ensures { (result ≡ next_target work.now i) × (i < result) }
+    ensures next { result ≡ next_target work.now i }
+    ensures after { i < result }
 {
-    if work_rows::kind(work, i) == line_kind::TUPLE {
-        return i + 1;
+    match work_rows::kind(work, i) {
+        line_kind::TUPLE => i + 1,
+        _ => work_rows::after_row(work, i),
     }
-    work_rows::after_row(work, i)
 }
 
 // A row in target position.
 #[cycle(walks)]
-fn walk_target(text: &[u8], work: &mut [u32], left: usize, s: ScopeStack, i: usize)
+#[tactic(auto, unfolding(crate::specs::WalkModel::target_at))]
+fn walk_target(text: &[u8], work: &mut [u32], left: usize, scope: &Scope, i: usize)
     requires { i ≤ 8192 }
-    ensures { work.new ≡ target_at (walk_expr left text.now false (top_of s)) (top_of s) i work.old }
+    ensures { work.new ≡ walk_target left text.now (scope_of scope.now) i work.old }
 {
     match work_rows::kind(work, i) {
-        line_kind::VAR => walk_scopes::define(work, s, work_rows::number(work, i)),
-        line_kind::TUPLE => {}, // its children are targets
-        line_kind::INDEX => walk_exprs(
-            text,
-            work,
-            left,
-            s,
-            walk_scopes::no_lambdas(),
-            i + 1,
-            work_rows::after_row(work, i),
-        ),
-        line_kind::GET => walk_exprs(
-            text,
-            work,
-            left,
-            s,
-            walk_scopes::no_lambdas(),
-            i + 1,
-            work_rows::after_row(work, i),
-        ),
-        _ => work_marks::put_slot(work, i, fault_kind::INVALID_TARGET),
+        line_kind::VAR => scope.define(work, work_rows::number(work, i)),
+        line_kind::TUPLE => {} // its children are targets
+        line_kind::INDEX | line_kind::GET => {
+            let stop = work_rows::after_row(work, i);
+            walk_exprs(text, work, left, scope, i + 1, stop)
+        }
+        _ => work_marks::put_slot(work, i, FaultKind::InvalidTarget),
     }
 }
 
@@ -63,198 +53,146 @@ fn walk_targets(
     text: &[u8],
     work: &mut [u32],
     left: usize,
-    s: ScopeStack,
+    scope: &Scope,
     first: usize,
     stop: usize,
 )
     requires { stop ≤ 8192 }
-    ensures { work.new ≡ rows_to next_target (target_at (walk_expr left text.now false (top_of s)) (top_of s)) first stop work.old }
+    ensures { work.new ≡ walk_targets left text.now (scope_of scope.now) first stop work.old }
 {
     let mut at = first;
     while at < stop {
         let next = next_target(work, at);
-        walk_target(text, work, left, s, at);
+        walk_target(text, work, left, scope, at);
         at = next;
     }
 }
 
 // An expression.
 #[cycle(walks)]
-fn walk_expr(
-    text: &[u8],
-    work: &mut [u32],
-    left: usize,
-    called: bool,
-    s: ScopeStack,
-    l: Lambdas,
-    i: usize,
-)
-    ensures { work.new ≡ walk_expr left text.now called (scope_of s l) i work.old }
+#[tactic(auto, using(crate::proofs::Ways::expr_ways), unfolding(crate::specs::WalkModel::expr_at))]
+fn walk_expr(text: &[u8], work: &mut [u32], left: usize, used: Use, scope: &Scope, i: usize)
+    ensures { work.new ≡ walk_expr left text.now (is_called used) (scope_of scope.now) i work.old }
 {
-    if left == 0 {
-        return;
-    }
-    if ROWS_MOST <= i {
+    if left == 0 || ROWS_MOST <= i {
         return;
     }
     let stop = work_rows::after_row(work, i);
     match work_rows::kind(work, i) {
-        line_kind::VAR => walk_judge::judge_read(work, s, l, called, work_rows::number(work, i), i),
+        line_kind::VAR => walk_judge::judge_read(work, scope, used, work_rows::number(work, i), i),
         line_kind::CALL => {
             let rest = work_rows::after_row(work, i + 1);
-            walk_expr(text, work, left - 1, true, s, l, i + 1);
-            walk_exprs(text, work, left - 1, s, l, rest, stop)
+            walk_expr(text, work, left - 1, Use::Callee, scope, i + 1);
+            walk_exprs(text, work, left - 1, scope, rest, stop)
         }
         line_kind::LAMBDA => {
-            let inner = walk_scopes::within(l, stop);
-            walk_blocks::enter_block(text, work, s, inner, i, stop);
-            walk_line(text, work, left - 1, s, inner, i + 1)
+            let inner = scope.in_lambda(work, i);
+            walk_blocks::enter_block(text, work, &inner, i, stop);
+            walk_line(text, work, left - 1, &inner, i + 1)
         }
-        _ => walk_exprs(text, work, left - 1, s, l, i + 1, stop),
+        _ => walk_exprs(text, work, left - 1, scope, i + 1, stop),
     }
 }
 
 // A list of expressions.
 #[cycle(walks)]
-fn walk_exprs(
-    text: &[u8],
-    work: &mut [u32],
-    left: usize,
-    s: ScopeStack,
-    l: Lambdas,
-    first: usize,
-    stop: usize,
-)
+fn walk_exprs(text: &[u8], work: &mut [u32], left: usize, scope: &Scope, first: usize, stop: usize)
     requires { stop ≤ 16384 }
-    ensures { work.new ≡ walk_exprs left text.now (scope_of s l) first stop work.old }
+    ensures { work.new ≡ walk_exprs left text.now (scope_of scope.now) first stop work.old }
 {
     let mut at = first;
     while at < stop {
         let next = work_rows::after_row(work, at);
-        walk_expr(text, work, left, false, s, l, at);
+        walk_expr(text, work, left, Use::Value, scope, at);
         at = next;
     }
 }
 
 // A statement, or another line of a block that is no expression.
 #[cycle(walks)]
-fn walk_stmt(text: &[u8], work: &mut [u32], left: usize, s: ScopeStack, i: usize) -> ScopeStack
-    ensures { walk result work.new ≡ walk_stmt left text.now i (walk s work.old) }
+#[tactic(auto, using(crate::proofs::Ways::stmt_ways), unfolding(crate::specs::WalkModel::stmt_at))]
+fn walk_stmt(text: &[u8], work: &mut [u32], left: usize, s: &mut ScopeStack, i: usize)
+    ensures { walk s.new work.new ≡ walk_stmt left text.now i (walk s.old work.old) }
 {
-    if left == 0 {
-        return s;
-    }
-    if ROWS_MOST <= i {
-        return s;
+    if left == 0 || ROWS_MOST <= i {
+        return;
     }
     let stop = work_rows::after_row(work, i);
-    let kind = work_rows::kind(work, i);
-    if is_block(kind) {
-        return walk_block(text, work, left - 1, s, i, stop);
-    }
-    match kind {
+    match work_rows::kind(work, i) {
+        line_kind::DEF | line_kind::METHOD => walk_block(text, work, left - 1, s, i, stop),
         line_kind::ASSIGN => {
+            let scope = Scope::new(*s);
             let target = work_rows::after_row(work, i + 1);
-            walk_expr(
-                text,
-                work,
-                left - 1,
-                false,
-                s,
-                walk_scopes::no_lambdas(),
-                i + 1,
-            );
-            walk_targets(text, work, left - 1, s, target, stop);
-            s
+            walk_expr(text, work, left - 1, Use::Value, &scope, i + 1);
+            walk_targets(text, work, left - 1, &scope, target, stop)
         }
         line_kind::FOR => {
             let name = work_rows::number(work, i);
             let body = work_rows::after_row(work, i + 1);
-            walk_expr(
-                text,
-                work,
-                left - 1,
-                false,
-                s,
-                walk_scopes::no_lambdas(),
-                i + 1,
-            );
-            walk_scopes::define(work, s, name);
+            walk_expr(text, work, left - 1, Use::Value, &Scope::new(*s), i + 1);
+            s.define(work, name);
             walk_stmts(text, work, left - 1, s, body, stop)
         }
         line_kind::CLASS => {
-            walk_scopes::define(work, s, work_rows::number(work, i));
-            if s.home != HOME_MODULE {
-                return s;
+            s.define(work, work_rows::number(work, i));
+            if s.home == Home::Module {
+                walk_stmts(text, work, left - 1, s, i + 1, stop)
             }
-            walk_stmts(text, work, left - 1, s, i + 1, stop)
         }
-        line_kind::ATTR => s,
+        line_kind::ATTR => {}
         _ => walk_stmts(text, work, left - 1, s, i + 1, stop),
     }
 }
 
-// Whether a line of this kind has a block: a def or a method.
-#[tactic(auto, unfolding(crate::specs::WalkModel::is_block))]
-fn is_block(kind: usize) -> bool
-    ensures { result ≡ is_block kind }
-{
-    kind == line_kind::DEF || kind == line_kind::METHOD
-}
-
 // A method has to have `self` as its first parameter.
+#[tactic(auto, unfolding(crate::specs::WalkModel::method_at))]
 fn judge_method(text: &[u8], work: &mut [u32], i: usize)
     requires { i < 4294967296 }
     ensures { work.new ≡ method_at text.now i work.old }
 {
     if walk_judge::lacks_self(text, work, i) {
-        work_marks::put_slot(work, i, fault_kind::METHOD_WITHOUT_SELF);
+        work_marks::put_slot(work, i, FaultKind::MethodWithoutSelf);
     }
 }
 
 // The row i of a def or a method: a def's name is bound, a method is judged.
-fn walk_head(text: &[u8], work: &mut [u32], s: ScopeStack, i: usize)
+#[tactic(auto, unfolding(crate::specs::WalkModel::head_at, walk_scopes::specs::ScopesModel::defined))]
+fn walk_head(text: &[u8], work: &mut [u32], s: &ScopeStack, i: usize)
     requires { i < 4096 }
-    ensures { work.new ≡ head_at text.now (top_of s) i work.old }
+    ensures { work.new ≡ head_at text.now (top_of s.now) i work.old }
 {
-    if work_rows::kind(work, i) == line_kind::DEF {
-        walk_scopes::define(work, s, work_rows::number(work, i));
-        return;
+    match work_rows::kind(work, i) {
+        line_kind::DEF => s.define(work, work_rows::number(work, i)),
+        _ => judge_method(text, work, i),
     }
-    judge_method(text, work, i)
 }
 
 // The def or the method at row i, up to the row stop: its block is a scope of its own.
 #[cycle(walks)]
-fn walk_block(
-    text: &[u8],
-    work: &mut [u32],
-    left: usize,
-    s: ScopeStack,
-    i: usize,
-    stop: usize,
-) -> ScopeStack
+#[tactic(auto, unfolding(crate::specs::WalkModel::block_at))]
+fn walk_block(text: &[u8], work: &mut [u32], left: usize, s: &mut ScopeStack, i: usize, stop: usize)
     requires { (i < 4096) × (stop ≤ 16384) }
-    ensures { walk result work.new ≡ block_at (walk_line left text.now) text.now i stop (walk s work.old) }
+    ensures { walk s.new work.new ≡ block_at (walk_line left text.now) text.now i stop (walk s.old work.old) }
 {
     walk_head(text, work, s, i);
-    let top = walk_scopes::push(work, s, i);
-    walk_blocks::enter_block(text, work, top, walk_scopes::no_lambdas(), i, stop);
-    let last = walk_stmts(text, work, left, top, i + 1, stop);
-    walk_scopes::pop(work, last)
+    s.push(work, i);
+    walk_blocks::enter_block(text, work, &Scope::new(*s), i, stop);
+    walk_stmts(text, work, left, s, i + 1, stop);
+    s.pop(work);
 }
 
 // The body of a lambda, a line of either sort. A statement, which no text has there, is walked as a list of one: so `walk_stmt` has one caller,
 // and is a part of it in the machine code.
 #[cycle(walks)]
-fn walk_line(text: &[u8], work: &mut [u32], left: usize, s: ScopeStack, l: Lambdas, i: usize)
+fn walk_line(text: &[u8], work: &mut [u32], left: usize, scope: &Scope, i: usize)
     requires { i < 16384 }
-    ensures { work.new ≡ walk_body left text.now (scope_of s l) i work.old }
+    ensures { work.new ≡ walk_body left text.now (scope_of scope.now) i work.old }
 {
     if work_rows::kind(work, i) < line_kind::LIT {
-        let last = walk_stmts(text, work, left, s, i, i + 1);
+        let mut s = scope.top;
+        walk_stmts(text, work, left, &mut s, i, i + 1);
     } else {
-        walk_expr(text, work, left, false, s, l, i);
+        walk_expr(text, work, left, Use::Value, scope, i);
     }
 }
 
@@ -264,33 +202,32 @@ fn walk_stmts(
     text: &[u8],
     work: &mut [u32],
     left: usize,
-    s: ScopeStack,
+    s: &mut ScopeStack,
     first: usize,
     stop: usize,
-) -> ScopeStack
+)
     requires { stop ≤ 16384 }
-    ensures { walk result work.new ≡ walk_stmts left text.now first stop (walk s work.old) }
+    ensures { walk s.new work.new ≡ walk_stmts left text.now first stop (walk s.old work.old) }
 {
-    let mut t = s;
     let mut at = first;
     while at < stop {
         let next = work_rows::after_row(work, at);
         if work_rows::kind(work, at) < line_kind::LIT {
-            t = walk_stmt(text, work, left, t, at);
+            walk_stmt(text, work, left, s, at);
         } else {
-            walk_expr(text, work, left, false, t, walk_scopes::no_lambdas(), at);
+            walk_expr(text, work, left, Use::Value, &Scope::new(*s), at);
         }
         at = next;
     }
-    t
 }
 
 // Walks the tree of so many `global` lines and so many rows: afterwards the slot of each row has the kind of its fault, or 0.
+#[tactic(auto, unfolding(crate::specs::WalkModel::walked))]
 pub fn walk(text: &[u8], work: &mut [u32], globals: usize, rows: usize)
     requires { (globals ≤ 4096) × (rows ≤ 4096) × (16384 ≤ length work.old) }
     ensures { work.new ≡ walked text.now globals rows work.old }
 {
-    let s = ScopeStack::new(rows);
+    let mut s = ScopeStack::new(rows);
     walk_given::bind_given(text, work, s, globals, rows);
-    let last = walk_stmts(text, work, rows, s, globals, rows);
+    walk_stmts(text, work, rows, &mut s, globals, rows);
 }

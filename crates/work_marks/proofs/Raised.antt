@@ -6,7 +6,7 @@ use mathlib.Core.Path.{◌≡◌, refl}
 use mathlib.Core.Bool.{Bool, true, false, cond}
 use mathlib.Core.List.{List}
 use lib.Dec.{ltb}
-use borrow.Author.Tests.{lt-ltb, le-ltb, ltb-true, ltb-false}
+use borrow.Author.Tests.{ltb-true, ltb-false}
 use Rattle.work_rows.specs.Layout.{rows_most}
 
 -- v is the buffer w with the mark m of the name a written as e
@@ -14,15 +14,6 @@ abbrev pub raise : List ℕ → List ℕ → ℕ → ℕ → ℕ → List ℕ
 raise w v a m e = cond (ltb a rows_most) (cond (ltb m e) v w) w
 
 module _ (w v : List ℕ) (a m e : ℕ) where
-  pub raise_on : a < rows_most → m < e → v ≡ raise w v a m e
-  raise_on l r = rw (lt-ltb a rows_most l, lt-ltb m e r)
-
-  pub raise_high : a < rows_most → e ≤ m → w ≡ raise w v a m e
-  raise_high l r = rw (lt-ltb a rows_most l, le-ltb m e r)
-
-  pub raise_none : rows_most ≤ a → w ≡ raise w v a m e
-  raise_none l = rw (le-ltb a rows_most l)
-
   -- what holds of the buffer where it stays, and where it is written
   pub raise_has : (P : List ℕ → Type 0) → ((a < rows_most → e ≤ m) → P w) → (a < rows_most → m < e → P v) → P (raise w v a m e)
   raise_has P stays writes = go (ltb a rows_most) (ltb m e) refl refl

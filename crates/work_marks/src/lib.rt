@@ -1,68 +1,73 @@
 // Marks of names and slots of rows, in the bits of the work buffer that the rows and the names leave free.
 #![tactic(auto)]
 
-ghost use Rattle.std.specs.Prelude.{◌≡◌, ◌+◌, ◌<◌, ◌≤◌, length};
-ghost use Rattle.work_marks.specs.MarksModel.{lambda_end, block_end, slot_at, stamp_at, flag_at, link_at, put_lambda_end, put_block_end, put_slot, put_stamp, put_flag, put_link, unmarked, unstamped, raised_lambda, raised_block};
+ghost use Rattle.std.specs.Prelude.{◌≡◌, ◌<◌, ◌≤◌, length};
+ghost use Rattle.spec_faults.specs.Kinds.{kind_number};
+ghost use Rattle.work_marks.specs.MarksModel.{lambda_end, block_end, slot_at, stamp_at, flag_at, link_at, put_slot, put_stamp, put_flag, put_link, unmarked, unstamped, raised_lambda, raised_block};
+ghost use Rattle.work_marks.specs.Signs.{fault_of, own_number, own_by_number};
 
-use work_rows::{HEAD_BASE, LINE_KINDS, ROWS_MOST};
+use spec_faults::FaultKind;
+use work_rows::{HEAD_BASE, ROWS_MOST};
+
+mod bits;
+mod own;
+
+use bits::Bits;
+pub use own::Own;
 
 // Where the stamps stand.
 const STAMP_BASE: usize = 12288;
 
-// Below a mark stand the row, or the head of a chain of names; a mark has this many values, and the slot stands above it.
-const ROWS: usize = 131072;
-
+// How many values a mark or a stamp has.
 const MARKS: usize = 8192;
 
 // A row that no read is at or after: the largest that a stamp holds.
 pub const NEVER: usize = 8191;
 
-// Flags: the name is none of the def's own names; it is one, and assigned at that row; it is one, and not assigned.
-pub const NOT_OWN: usize = 0;
+// A mark of a lambda stands above a row, that of a block above the head of a chain of names, and a slot above that.
+const LAMBDA_END: Bits = Bits {
+    base: 0,
+    below: 131072,
+    values: 32768,
+};
 
-pub const ASSIGNED: usize = 1;
+const BLOCK_END: Bits = Bits {
+    base: HEAD_BASE,
+    below: 8192,
+    values: MARKS,
+};
 
-pub const UNASSIGNED: usize = 2;
+const SLOT: Bits = Bits {
+    base: HEAD_BASE,
+    below: 67108864,
+    values: 64,
+};
 
 // Above a stamp stand a flag or a link.
-const LINKS: usize = 524288;
+const STAMP: Bits = Bits {
+    base: STAMP_BASE,
+    below: 1,
+    values: MARKS,
+};
 
-const SLOTS: usize = 67108864;
-
-const SLOT_KINDS: usize = 16;
+const LINK: Bits = Bits {
+    base: STAMP_BASE,
+    below: 8192,
+    values: 524288,
+};
 
 // The row after the outermost lambda around that has the name as a parameter.
 pub fn lambda_end(work: &[u32], name: usize) -> usize
     ensures { result ≡ lambda_end work.now name }
 {
-    work_rows::get(work, name) / ROWS
+    LAMBDA_END.get(work, name)
 }
 
 // The row after the outermost block around that binds the name.
 pub fn block_end(work: &[u32], name: usize) -> usize
-    requires { name < 4294967296 }
     ensures { result ≡ block_end work.now name }
 {
-    work_rows::get(work, HEAD_BASE + name) / MARKS % MARKS
-}
-
-fn put_lambda_end(work: &mut [u32], name: usize, end: usize)
-    ensures { work.new ≡ put_lambda_end work.old name end }
-{
-    let row = work_rows::get(work, name) % ROWS;
-    work_rows::put(work, name, row + ROWS * (end % MARKS))
-}
-
-fn put_block_end(work: &mut [u32], name: usize, end: usize)
-    requires { name < 4294967296 }
-    ensures { work.new ≡ put_block_end work.old name end }
-{
-    let x = work_rows::get(work, HEAD_BASE + name);
-    work_rows::put(
-        work,
-        HEAD_BASE + name,
-        x % MARKS + MARKS * (end % MARKS) + SLOTS * (x / SLOTS),
-    )
+    BLOCK_END.get(work, name)
 }
 
 // The name is open as a parameter of a lambda up to the row `end`, at least.
@@ -70,10 +75,8 @@ fn put_block_end(work: &mut [u32], name: usize, end: usize)
 pub fn raise_lambda(work: &mut [u32], name: usize, end: usize)
     ensures { work.new ≡ raised_lambda work.old name end }
 {
-    if name < ROWS_MOST {
-        if lambda_end(work, name) < end {
-            put_lambda_end(work, name, end);
-        }
+    if name < ROWS_MOST && lambda_end(work, name) < end {
+        LAMBDA_END.put(work, name, end % MARKS);
     }
 }
 
@@ -82,75 +85,73 @@ pub fn raise_lambda(work: &mut [u32], name: usize, end: usize)
 pub fn raise_block(work: &mut [u32], name: usize, end: usize)
     ensures { work.new ≡ raised_block work.old name end }
 {
-    if name < ROWS_MOST {
-        if block_end(work, name) < end {
-            put_block_end(work, name, end);
-        }
+    if name < ROWS_MOST && block_end(work, name) < end {
+        BLOCK_END.put(work, name, end);
     }
 }
 
-// The kind of row i's fault, or 0.
+// The number of the kind of row i's fault, or 0.
 pub fn slot(work: &[u32], i: usize) -> usize
-    requires { i < 4294967296 }
     ensures { result ≡ slot_at work.now i }
 {
-    work_rows::get(work, HEAD_BASE + i) / SLOTS
+    SLOT.get(work, i)
+}
+
+// The kind of row i's fault, if it has one.
+pub fn fault(work: &[u32], i: usize) -> Option<FaultKind>
+    ensures { result ≡ fault_of (slot_at work.now i) }
+{
+    match slot(work, i) {
+        0 => None,
+        number => Some(FaultKind::by_number(number)),
+    }
 }
 
 #[tactic(auto, unfolding(crate::specs::MarksModel::put_slot))]
-pub fn put_slot(work: &mut [u32], i: usize, kind: usize)
-    requires { i < 4294967296 }
-    ensures { work.new ≡ put_slot work.old i kind }
+pub fn put_slot(work: &mut [u32], i: usize, kind: FaultKind)
+    ensures { work.new ≡ put_slot work.old i (kind_number kind) }
 {
-    let x = work_rows::get(work, HEAD_BASE + i) % SLOTS;
-    work_rows::put(work, HEAD_BASE + i, x + SLOTS * (kind % SLOT_KINDS))
+    SLOT.put(work, i, kind.number())
 }
 
 // The stamp of a name: the row from which it is assigned in the def whose own names are being gathered, if it comes after that def's row.
 pub fn stamp(work: &[u32], name: usize) -> usize
-    requires { name < 4294967296 }
     ensures { result ≡ stamp_at work.now name }
 {
-    work_rows::get(work, STAMP_BASE + name) % MARKS
+    STAMP.get(work, name)
 }
 
 pub fn put_stamp(work: &mut [u32], name: usize, from: usize)
-    requires { name < 4294967296 }
     ensures { work.new ≡ put_stamp work.old name from }
 {
-    let flag = work_rows::get(work, STAMP_BASE + name) / MARKS;
-    work_rows::put(work, STAMP_BASE + name, from % MARKS + MARKS * flag)
+    STAMP.put(work, name, from)
 }
 
 // The flag of the `var` at row i: how its name stands to the def around.
-pub fn flag(work: &[u32], i: usize) -> usize
-    requires { i < 4294967296 }
-    ensures { result ≡ flag_at work.now i }
+pub fn flag(work: &[u32], i: usize) -> Own
+    ensures { result ≡ own_by_number (flag_at work.now i) }
 {
-    work_rows::get(work, STAMP_BASE + i) / MARKS
+    Own::by_number(LINK.get(work, i))
 }
 
-pub fn put_flag(work: &mut [u32], i: usize, flag: usize)
-    requires { i < 4294967296 }
-    ensures { work.new ≡ put_flag work.old i flag }
+pub fn put_flag(work: &mut [u32], i: usize, own: Own)
+    ensures { work.new ≡ put_flag work.old i (own_number own) }
 {
-    let stamp = work_rows::get(work, STAMP_BASE + i) % MARKS;
-    work_rows::put(work, STAMP_BASE + i, stamp + MARKS * (flag % LINKS))
+    LINK.put(work, i, own.number())
 }
 
 // The link of the def, method or lambda at row i: the row of the scope around. It stands where a `var` has its flag.
 pub fn link(work: &[u32], i: usize) -> usize
-    requires { i < 4294967296 }
-    ensures { (result ≡ link_at work.now i) × (result < 524288) }
+    ensures value { result ≡ link_at work.now i }
+    ensures in_19_bits { result < 524288 }
 {
-    work_rows::get(work, STAMP_BASE + i) / MARKS
+    LINK.get(work, i)
 }
 
 pub fn put_link(work: &mut [u32], i: usize, row: usize)
-    requires { i < 4294967296 }
     ensures { work.new ≡ put_link work.old i row }
 {
-    put_flag(work, i, row)
+    LINK.put(work, i, row)
 }
 
 // Of the first rows no mark of a block and no fault is left. The heads of the chains of names stay.
@@ -158,10 +159,8 @@ pub fn forget_marks(work: &mut [u32], rows: usize)
     requires { (rows ≤ 4096) × (16384 ≤ length work.old) }
     ensures { work.new ≡ unmarked rows work.old }
 {
-    let mut i = 0;
-    while i < rows {
-        work[HEAD_BASE + i] = work[HEAD_BASE + i] % 8192;
-        i += 1;
+    for x in work[HEAD_BASE..HEAD_BASE + rows].iter_mut() {
+        *x %= 8192;
     }
 }
 
@@ -170,9 +169,5 @@ pub fn forget_stamps(work: &mut [u32], rows: usize)
     requires { (rows ≤ 4096) × (16384 ≤ length work.old) }
     ensures { work.new ≡ unstamped rows work.old }
 {
-    let mut i = 0;
-    while i < rows {
-        work[STAMP_BASE + i] = 0;
-        i += 1;
-    }
+    work[STAMP_BASE..STAMP_BASE + rows].fill(0)
 }

@@ -14,11 +14,11 @@ pub loop-c-preserved : goal.loop-c-preserved
 loop-c-preserved c =
     let a = c.args in (
       c.enter_one.auto.work ∙ c.loop-c.invariant.0,
-      params_turn a.text.now (scope_of a.s a.l) a.i c.loop-c.work c.loop-c.c _ _ _ c.loop-c-test.true c.field-name.ensures c.enter_one.ensures c.next-c.ensures ∙ c.loop-c.invariant.1,
+      params_turn a.text.now (scope_of a.scope.now) a.i c.loop-c.work c.loop-c.c _ _ _ c.loop-c-test.true c.field-name.ensures c.enter_one.ensures c.next-c.ensures ∙ c.loop-c.invariant.1,
       subst (λ (d : Cursor). d.more ≡ true → d.at ≤ length a.text.now) (sym c.next-c.ensures) (next_inside a.text.now _),
     )
 
 pub returns : goal.returns
 returns c =
     let a = c.args in
-    sym (params_end a.text.now (scope_of a.s a.l) a.i c.loop-c.work c.loop-c.c c.loop-c-test.false) ∙ c.loop-c.invariant.1
+    sym (params_end a.text.now (scope_of a.scope.now) a.i c.loop-c.work c.loop-c.c c.loop-c-test.false) ∙ c.loop-c.invariant.1

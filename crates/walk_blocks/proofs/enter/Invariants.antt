@@ -9,7 +9,7 @@ use Rattle.walk_blocks.proofs.enter.Given as goal
 abbrev pub invariant-loop-c : goal.invariant-loop-c
 invariant-loop-c l =
     (length l.work ≡ length l.initial.work)
-    × (entered l.text (scope_of l.s l.l) l.i (parts_from l.text l.c) l.work ≡ entered l.text (scope_of l.s l.l) l.i (params_of l.text l.initial.work l.i) l.initial.work)
+    × (entered l.text (scope_of l.scope) l.i (parts_from l.text l.c) l.work ≡ entered l.text (scope_of l.scope) l.i (params_of l.text l.initial.work l.i) l.initial.work)
     × (l.c.more ≡ true → l.c.at ≤ length l.text)
 
 abbrev pub decreases-loop-c : goal.decreases-loop-c

@@ -1,9 +1,8 @@
 -- The cycle of calls. Each member's measure is eight times the lines left, and its rank: a call that spends a line may go to any member, and a
 -- call that spends none goes to a lower rank. The loops' invariant: what is left of the rows gives what is wanted.
-use Rattle.std.proofs.Common.{◌≡◌, false, ◌+◌, ◌*◌, ◌-◌}
-use Rattle.work_rows.specs.LoopsModel.{rows_to}
-use Rattle.walk_scopes.specs.ScopesModel.{scope_of, top_of}
-use Rattle.walk_tree.specs.WalkModel.{walk, next_target, target_at, walk_expr, walk_exprs, walk_stmts}
+use Rattle.std.proofs.Common.{◌≡◌, ◌+◌, ◌*◌, ◌-◌}
+use Rattle.walk_scopes.specs.ScopesModel.{scope_of}
+use Rattle.walk_tree.specs.WalkModel.{walk, walk_exprs, walk_stmts, walk_targets}
 use Rattle.walk_tree.proofs.+walks.Given as goal
 
 abbrev pub decreases-walk_block : goal.decreases-walk_block
@@ -32,22 +31,21 @@ decreases-walk_targets l = 8 * l.left + 5
 
 abbrev pub invariant-walk_exprs-loop-at : goal.invariant-walk_exprs-loop-at
 invariant-walk_exprs-loop-at l =
-    walk_exprs l.left l.text (scope_of l.s l.l) l.at l.stop l.work ≡ walk_exprs l.left l.text (scope_of l.s l.l) l.first l.stop l.initial.work
+    walk_exprs l.left l.text (scope_of l.scope) l.at l.stop l.work ≡ walk_exprs l.left l.text (scope_of l.scope) l.first l.stop l.initial.work
 
 abbrev pub decreases-walk_exprs-loop-at : goal.decreases-walk_exprs-loop-at
 decreases-walk_exprs-loop-at l = l.stop - l.at
 
 abbrev pub invariant-walk_stmts-loop-at : goal.invariant-walk_stmts-loop-at
 invariant-walk_stmts-loop-at l =
-    walk_stmts l.left l.text l.at l.stop (walk l.t l.work) ≡ walk_stmts l.left l.text l.first l.stop (walk l.initial.t l.initial.work)
+    walk_stmts l.left l.text l.at l.stop (walk l.s l.work) ≡ walk_stmts l.left l.text l.first l.stop (walk l.initial.s l.initial.work)
 
 abbrev pub decreases-walk_stmts-loop-at : goal.decreases-walk_stmts-loop-at
 decreases-walk_stmts-loop-at l = l.stop - l.at
 
 abbrev pub invariant-walk_targets-loop-at : goal.invariant-walk_targets-loop-at
 invariant-walk_targets-loop-at l =
-    rows_to next_target (target_at (walk_expr l.left l.text false (top_of l.s)) (top_of l.s)) l.at l.stop l.work
-    ≡ rows_to next_target (target_at (walk_expr l.left l.text false (top_of l.s)) (top_of l.s)) l.first l.stop l.initial.work
+    walk_targets l.left l.text (scope_of l.scope) l.at l.stop l.work ≡ walk_targets l.left l.text (scope_of l.scope) l.first l.stop l.initial.work
 
 abbrev pub decreases-walk_targets-loop-at : goal.decreases-walk_targets-loop-at
 decreases-walk_targets-loop-at l = l.stop - l.at

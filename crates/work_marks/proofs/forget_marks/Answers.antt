@@ -1,18 +1,21 @@
--- A turn of the loop clears one row; past the last there is none to clear.
-use Rattle.std.proofs.Common.{◌≡◌, ◌+◌, ◌%◌, get_or, set, length-set, refl, sym, ap, ◌∙◌, arith}
-use Rattle.work_rows.specs.LoopsModel.{next_row}
-use Rattle.work_rows.proofs.Loops.{rows_end, rows_turn, row_on}
-use Rattle.work_marks.specs.MarksModel.{bare}
+-- A turn of the loop clears one number; at the end all of the part are cleared.
+use Rattle.std.proofs.Common.{◌≡◌, ◌≤◌, ◌+◌, ◌-◌, ◌%◌, length, ap, arith, set, sym, ◌∙◌, get_or, take, drop}
+use Rattle.std.proofs.lemmas.Grind.{get_or_default_zero}
+use Rattle.std.proofs.lemmas.List.{append-nil, take_all, drop_all}
+use Rattle.std.proofs.lemmas.List.Edits.{map_over_more}
+use Rattle.work_marks.proofs.Parts.{rows_written}
 use Rattle.work_marks.proofs.forget_marks.Goals as goal
 
-pub loop-i-preserved : goal.loop-i-preserved
-loop-i-preserved c =
-    let w = c.loop-i.work in
-    let k = 8_192 + c.loop-i.i in
-    let e : get_or w k 0 % 8_192 ≡ get_or w k 0 % 8_192 % 4_294_967_296 = omega arith in (
-      length-set w k _ ∙ c.loop-i.invariant.0,
-      rows_turn next_row bare row_on c.loop-i.i c.args.rows (c.loop-i.i + 1) w _ c.loop-i-test.true refl (ap (set w k) e) ∙ c.loop-i.invariant.1,
-    )
+pub loop-x-preserved : goal.loop-x-preserved
+loop-x-preserved c =
+    let items = c.loop-x.x-items in
+    let i = c.loop-x.x-index in
+    let x = get_or items i 0 in
+    let e : x % 8_192 ≡ x % 8_192 % 4_294_967_296 = omega arith in
+    ap (set items i) e ∙ map_over_more (λ x. x % 8_192 % 4_294_967_296) _ items i x (omega arith) c.loop-x.invariant (sym (get_or_default_zero items i x (omega arith)))
 
 pub returns : goal.returns
-returns c = sym (rows_end next_row bare c.loop-i.i c.args.rows c.loop-i.work c.loop-i-test.false) ∙ c.loop-i.invariant.1
+returns c =
+    let part = take (8_192 + c.args.rows - 8_192) (drop 8_192 c.args.work.now) in
+    let past : length part ≤ c.loop-x.x-index = c.loop-x-test.false in
+    rows_written (λ x. x % 8_192 % 4_294_967_296) 8_192 c.args.rows _ c.args.work.now _ (omega arith) (omega arith) (c.loop-x.invariant ∙ simp (take_all, drop_all, append-nil))

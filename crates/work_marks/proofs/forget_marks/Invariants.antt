@@ -1,11 +1,7 @@
--- What is left to clear, from the row on, gives what is wanted.
-use Rattle.std.proofs.Common.{◌-◌, ◌≡◌, length}
-use Rattle.work_rows.specs.LoopsModel.{rows_to, next_row}
-use Rattle.work_marks.specs.MarksModel.{bare, unmarked}
+-- The numbers before the index are cleared.
+use Rattle.std.proofs.Common.{◌≡◌, ◌%◌, ◌++◌, map, take, drop}
 use Rattle.work_marks.proofs.forget_marks.Given as goal
 
-abbrev pub invariant-loop-i : goal.invariant-loop-i
-invariant-loop-i l = (length l.work ≡ length l.fn.work) × (rows_to next_row bare l.i l.rows l.work ≡ unmarked l.rows l.fn.work)
-
-abbrev pub decreases-loop-i : goal.decreases-loop-i
-decreases-loop-i l = l.rows - l.i
+abbrev pub invariant-loop-x : goal.invariant-loop-x
+invariant-loop-x l =
+    l.x-items ≡ map (λ x. x % 8_192 % 4_294_967_296) (take l.x-index l.initial.x-items) ++ drop l.x-index l.initial.x-items

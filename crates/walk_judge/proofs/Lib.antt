@@ -1,2 +1,0 @@
--- The proofs about the judgement of a read.
-pub mod Ways
