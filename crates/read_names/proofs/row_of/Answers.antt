@@ -9,5 +9,5 @@ pub returns-clause-value_2 : goal.returns-clause-value_2
 returns-clause-value_2 c =
     let a = c.args in
     let f : c.find.result ≡ lookup a.text.now a.work.now a.name.now =
-    look_up a.text.now a.work.now a.name.now c.hash.result c.find.result c.hash.ensures.0 c.find.ensures in
+    look_up a.text.now a.work.now a.name.now c.hash.result c.find.result c.hash.ensures.value c.find.ensures in
     λ names s some. f ∙ lookup_earliest s a.name.now some
