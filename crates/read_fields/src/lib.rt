@@ -1,4 +1,5 @@
-// A cursor over the fields of a line: it goes by value, and each step hands back the next one, or none where it finds something else.
+// A cursor over the fields of a line: it goes by value, and each step hands back the next one, or None where it finds
+// something else.
 #![tactic(auto)]
 
 ghost use Rattle.std.specs.Prelude.{◌≡◌, ◌<◌, ◌≤◌, length, drop, position};

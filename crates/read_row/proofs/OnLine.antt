@@ -1,11 +1,7 @@
 -- An offset on a line leads back to where the line starts: each field of a line is on it, and after its LF the next line starts.
 -- By induction over the bytes, as `cut` goes: where a byte is no LF, the offset after it is on the same line.
-use Prim.Native.Nat.{ℕ, suc}
-use mathlib.Core.Path.{◌≡◌, refl, sym, subst}
-use mathlib.Core.Bool.{Bool, true, false, false≢true}
-use mathlib.Core.List.{List, [], ◌∷◌}
-use lib.Dec.{eqb}
-use lib.ListN.{drop}
+use Rattle.std.proofs.Common.{ℕ, suc, ◌≡◌, refl, sym, subst, Bool, true, false, List, [], ◌∷◌, eqb, drop}
+use Rattle.std.proofs.Math.Bool.{false≢true}
 use Rattle.spec_text.specs.Bytes.{Bytes, Part}
 use Rattle.spec_text.specs.Lines.{cut}
 use Rattle.spec_text.proofs.Lists.{All, all_nil, all_cons, next_of, at_next}

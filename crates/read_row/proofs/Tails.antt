@@ -1,14 +1,8 @@
 -- The parameters of a line, found again from what its row keeps: where its name starts, or the line if it has none.
 -- The fields from any field of a line on are the last fields of that line; a line's parameters are its last fields, by the table of words.
-use Prim.Native.Nat.{ℕ, zero, suc, ◌+◌, ◌<◌}
-use native.Mathlib.Omega.{arith}
-use mathlib.Core.Path.{◌≡◌, refl, sym, ap, subst, ◌∙◌}
-use mathlib.Core.Bool.{Bool, true, false, cond}
-use mathlib.Core.List.{List, [], ◌∷◌}
-use mathlib.Core.Option.{Option, none, some}
-use lib.Dec.{eqb}
-use lib.ListN.{length, get_or, get_elem?, drop}
-use lib.Seq.{drop-drop}
+use Rattle.std.proofs.Common.{ℕ, zero, suc, ◌+◌, ◌<◌, arith, ◌≡◌, refl, sym, ap, subst, ◌∙◌, Bool, true, false, cond, List, [], ◌∷◌, eqb, length, get_or, drop, drop-drop}
+use Rattle.std.proofs.Math.Option.{Option, none, some}
+use Rattle.std.proofs.Math.ListN.{get_elem?}
 use Rattle.spec_text.specs.Bytes.{Bytes, Part, no_part, same}
 use Rattle.spec_text.specs.Tree.{Line}
 use Rattle.spec_text.specs.Lines.{Word, words, Parsed, well_formed, parsed, line_of, parse}

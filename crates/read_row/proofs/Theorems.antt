@@ -1,10 +1,6 @@
 -- What holds of each text that is a tree, and of a work buffer that holds its rows: lines have the words of their places, each row's line
 -- is read again where it starts, and what the buffer keeps of a row leads back to its line.
-use Prim.Native.Nat.{ℕ, ◌+◌, ◌/◌, ◌%◌, ◌<◌}
-use native.Mathlib.Omega.{arith}
-use mathlib.Core.Path.{◌≡◌}
-use mathlib.Core.List.{List, map}
-use lib.ListN.{length, get_or}
+use Rattle.std.proofs.Common.{ℕ, ◌+◌, ◌/◌, ◌%◌, ◌<◌, arith, ◌≡◌, List, map, length, get_or}
 use Rattle.spec_text.specs.Bytes.{Bytes}
 use Rattle.spec_text.specs.Tree.{Tree}
 use Rattle.spec_text.specs.Reading.{tree, reading}

@@ -1,13 +1,7 @@
 -- A text that is a tree: its rows stand in it one after the other, and each of its lines has the word of its place.
 -- By induction over the levels left and the counts, reader by reader, as the definition of reading goes; what was read is put together
 -- by `nothing`, `both` and `under`.
-use Prim.Native.Nat.{ℕ, zero, suc, ◌*◌, ◌≤◌}
-use native.Mathlib.Omega.{arith}
-use mathlib.Core.Path.{◌≡◌, refl, sym, subst, ◌∙◌}
-use mathlib.Core.Bool.{Bool, true, false}
-use mathlib.Core.List.{List, [], ◌∷◌, ◌++◌, map}
-use lib.Dec.{ltb}
-use lib.ListN.{length, length-append}
+use Rattle.std.proofs.Common.{ℕ, zero, suc, ◌*◌, ◌≤◌, arith, ◌≡◌, refl, sym, subst, ◌∙◌, Bool, true, false, List, [], ◌∷◌, ◌++◌, map, ltb, length, length-append}
 use Rattle.spec_text.specs.Bytes.{Bytes}
 use Rattle.spec_text.specs.Tree.{snil, Expr, Exprs, Attrs, Stmt, Stmts, Methods, Tree, block, for}
 use Rattle.spec_text.specs.Lines.{StmtForm, ExprForm, Form, Parsed, count_at, as_stmt, as_expr, as_sort}

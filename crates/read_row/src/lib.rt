@@ -8,42 +8,40 @@ use read_fields::Cursor;
 use read_line::Line;
 use spec_text::line_kind;
 
-// The cursor at the first parameter of row i.
+// The cursor at the first parameter of row i, past the fields before the parameters.
 pub fn params(text: &[u8], work: &[u32], i: usize) -> Cursor
     requires { i < 4294967296 }
-    ensures { (parts_from text.now result ≡ params_of text.now work.now i) × (result.more ≡ true → result.at ≤ length text.now) }
+    ensures parts { parts_from text.now result ≡ params_of text.now work.now i }
+    ensures within { result.more ≡ true → result.at ≤ length text.now }
 {
-    let mut c = Cursor::start(work_rows::offset(work, i));
-    let mut n: usize = if work_rows::kind(work, i) == line_kind::LAMBDA {
+    let at = work_rows::offset(work, i);
+    let before: usize = if work_rows::kind(work, i) == line_kind::LAMBDA {
         3
     } else {
         2
     };
-    while 0 < n && c.more {
-        if text.len() < c.at {
-            return Cursor {
-                at: 0,
-                more: false,
-                ok: true,
-            };
+    let mut c = Cursor {
+        at,
+        more: at <= text.len(),
+    };
+    for _ in 0..before {
+        if c.more {
+            let end = c.at + read_fields::field(text, c.at).len();
+            c = read_fields::next(text, end);
         }
-        let end = c.at + read_fields::field(text, c.at).len();
-        c = read_fields::next(text, end);
-        n -= 1;
     }
     c
 }
 
 // Where the line starts that an offset is on.
+#[tactic(auto, using(crate::proofs::Loops::start_here, crate::proofs::Loops::start_before, crate::proofs::Loops::start_zero))]
 fn line_start(text: &[u8], at: usize) -> usize
     ensures { result ≡ line_start text.now at }
 {
-    let mut start = at;
-    while 0 < start {
-        if read_bytes::byte_at(text, start - 1) == read_bytes::LF {
-            return start;
+    for i in (0..at).rev() {
+        if read_bytes::byte_at(text, i) == read_bytes::LF {
+            return i + 1;
         }
-        start -= 1;
     }
     0
 }
@@ -54,5 +52,5 @@ pub fn line_of_row(text: &[u8], work: &[u32], i: usize) -> Line
     requires { i < 4294967296 }
     ensures { result ≡ line_of_row text.now work.now i }
 {
-    read_line::line_at(text, line_start(text, work_rows::offset(work, i)))
+    read_line::line_at(text, line_start(text, work_rows::offset(work, i))).unwrap_or_default()
 }

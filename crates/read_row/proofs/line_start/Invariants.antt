@@ -3,8 +3,5 @@ use Rattle.std.proofs.Common.{◌≡◌}
 use Rattle.read_row.specs.RowModel.{line_start}
 use Rattle.read_row.proofs.line_start.Given as goal
 
-abbrev pub invariant-loop-start : goal.invariant-loop-start
-invariant-loop-start l = line_start l.text l.at ≡ line_start l.text l.start
-
-abbrev pub decreases-loop-start : goal.decreases-loop-start
-decreases-loop-start l = l.start
+abbrev pub invariant-loop-i : goal.invariant-loop-i
+invariant-loop-i l = line_start l.text l.at ≡ line_start l.text l.i
