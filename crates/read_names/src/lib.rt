@@ -1,5 +1,5 @@
-// Numbers the names of rows: the number of a name is the earliest row that has it. New names with one hash are a chain, from a head
-// through links that fall, in the work buffer.
+// Numbers the names of rows: the number of a name is the earliest row that has it. New names with one hash are a chain,
+// from a head through links that fall, in the work buffer.
 #![tactic(auto)]
 
 ghost use Rattle.std.specs.Prelude.{◌≡◌, ◌<◌, ◌≤◌, length, List, []};
@@ -48,11 +48,13 @@ fn find(text: &[u8], work: &[u32], hash: usize, name: &[u8]) -> Option<usize>
     None
 }
 
-// The earliest row that has the name. It finds what `lookup` finds in any buffer, and where the buffer holds names, the earliest.
+// The earliest row that has the name. It finds what `lookup` finds in any buffer, and where the buffer holds names, the
+// earliest.
 #[tactic(auto, using(crate::proofs::Theorems::lookup_earliest))]
 pub fn row_of(text: &[u8], work: &[u32], name: &[u8]) -> Option<usize>
     ensures looked_up { row_number result ≡ lookup text.now work.now name.now }
-    ensures earliest_row { (names : List Bytes) → Names text.now names work.now → (name.now ≡ [] → ⊥) → row_number result ≡ earliest names name.now }
+    ensures earliest_row { (names : List Bytes) → Names text.now names work.now → (name.now ≡ [] → ⊥)
+        → row_number result ≡ earliest names name.now }
 {
     find(text, work, read_fields::hash(name), name)
 }
@@ -64,7 +66,7 @@ pub fn place(work: &mut [u32], i: usize, at: usize)
     work_rows::put(work, NAME_BASE.saturating_add(i), at)
 }
 
-// Writes row i's name, where r is the earliest row that has it.
+// Writes row i's name, where r is the earliest row that has it; what is no row counts as none.
 fn enter(work: &mut [u32], i: usize, at: usize, hash: usize, r: Option<usize>)
     ensures { work.new ≡ name_entered work.old i at hash (row_number r) }
 {

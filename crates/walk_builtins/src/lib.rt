@@ -1,4 +1,5 @@
-// The thirteen built-in names, as a table of their bytes and a table of their lengths, and the search for a name among them.
+// The thirteen built-in names, as a table of their bytes and a table of their lengths, and the search for a name among
+// them.
 #![tactic(auto)]
 
 ghost use Rattle.std.specs.Prelude.{◌≡◌, ◌<◌, MatchOption};
@@ -50,8 +51,8 @@ pub fn names() -> TableNames<'static>
     }
 }
 
-// The number of a built-in name, in the table's order from 0. The walk binds the names of the table and asks for no number: this and
-// `is_builtin` are membership proved over the table, for whoever asks next (argument counts).
+// The number of a built-in name, in the table's order from 0. The walk binds the names of the table and asks for no
+// number: this and `is_builtin` are membership proved over the table, for whoever asks next (argument counts).
 pub fn number_of(name: &[u8]) -> Option<usize>
     ensures { MatchOption result (number_of name.now ≡ 13) (λ k. (number_of name.now ≡ k) × (k < 13)) }
 {

@@ -15,13 +15,14 @@ pub const HEAD_BASE: usize = 8192;
 
 pub const HEAD_END: usize = 12288;
 
-// A row's first number is its kind and LINE_KINDS times the lines below it; its second an offset and OFFSETS times `same`.
+// A row's first number is its kind and LINE_KINDS times the lines below it; its second an offset and OFFSETS times
+// `same`.
 pub const LINE_KINDS: usize = 32;
 
 pub const OFFSETS: usize = 65536;
 
-// What stands above a row's offset: the earliest row that has its name; or, where this row is the earliest, the next row in the chain
-// of the names that have its hash.
+// What stands above a row's offset: the earliest row that has its name; or, where this row is the earliest, the next row
+// in the chain of the names that have its hash.
 #[derive(Clone, Copy, PartialEq, Eq)]
 pub enum SameName {
     Row(usize),
