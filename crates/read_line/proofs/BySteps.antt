@@ -3,6 +3,7 @@ use mathlib.Core.Path.{◌≡◌, refl, sym, ap, ◌∙◌}
 use mathlib.Core.Bool.{Bool, true, false, cond, ◌&&◌}
 use mathlib.Core.Option.{Option, none, some}
 use Prim.Native.Nat.{ℕ}
+use Rattle.std.specs.Prelude.{Option as Maybe, None, Some}
 use lib.Dec.{ltb}
 use lib.ListN.{length}
 use borrow.Author.Tests.{ltb-true}
@@ -13,7 +14,7 @@ use Rattle.read_bytes.specs.BytesModel.{is_end}
 use Rattle.read_fields.specs.declared.Cursor.{Cursor}
 use Rattle.read_fields.specs.declared.Number.{Number}
 use Rattle.read_fields.specs.declared.Name.{Name}
-use Rattle.read_line.specs.LineModel.{no_line, numbers_of, cut_line, line_at}
+use Rattle.read_line.specs.LineModel.{numbers_of, cut_line, line_at}
 use Rattle.read_words.specs.WordsModel.{place, is_word, no_kind, kind_from, shape_of}
 use Rattle.read_line.specs.StepsModel.{span_from, count_from, own_from, params_from, shaped, by_steps}
 use Rattle.read_words.specs.declared.Kind.{Kind}
@@ -25,26 +26,26 @@ use Rattle.read_line.proofs.Shaped.{line_in, shaped_cut}
 use Rattle.read_words.proofs.WordPlaces.{word_at, row_line, line_placed, few_counts}
 
 -- the line of what the table makes of its fields
-abbrev of_parsed : Option Parsed → Bool → ℕ → Line
-of_parsed o ended next = elim ended [ true ↦ elim o [ some p ↦ numbers_of p next | none ↦ no_line ] | false ↦ no_line ]
+abbrev of_parsed : Option Parsed → Bool → ℕ → Maybe Line
+of_parsed o ended next = elim ended [ true ↦ elim o [ some p ↦ Some (numbers_of p next) | none ↦ None ] | false ↦ None ]
 
 of_row : (k : ℕ) (w : Word) (l : Cut) → of_parsed (row_line k w l.fields) l.ended l.next ≡ line_in w k l
 of_row k w l = go l.ended (well_formed w l.fields)
   where
-    go : (e t : Bool) → of_parsed (elim t [ true ↦ some (parsed k w l.fields) | false ↦ none ]) e l.next ≡ cond (e && t) (numbers_of (parsed k w l.fields) l.next) no_line
+    go : (e t : Bool) → of_parsed (elim t [ true ↦ some (parsed k w l.fields) | false ↦ none ]) e l.next ≡ cond (e && t) (Some (numbers_of (parsed k w l.fields) l.next)) None
     go true true = refl
     go true false = refl
     go false t = refl
 
-no_row : (ended : Bool) (next : ℕ) → of_parsed none ended next ≡ no_line
+no_row : (ended : Bool) (next : ℕ) → of_parsed none ended next ≡ None
 no_row true next = refl
 no_row false next = refl
 
 -- what follows a word
-abbrev after : Bytes → Kind → Line
+abbrev after : Bytes → Kind → Maybe Line
 after text k = shaped (shape_of k.kind) k text
 
-no_kind_lem : (text : Bytes) → no_line ≡ after text no_kind
+no_kind_lem : (text : Bytes) → None ≡ after text no_kind
 unfolding shape_of span_from count_from own_from params_from
 no_kind_lem text = refl
 
@@ -86,8 +87,7 @@ pub chained : {start e : Cursor} {k : Kind} {s : Shape} {from to a b c : Number}
     → p ≡ params_from s.params text c.next
     → e ≡ end_from p.next
     → cond e.ok
-    (record {
-      ok = true;
+    (Some (record {
       kind = k.kind;
       sort = s.sort;
       start = from.value;
@@ -100,7 +100,7 @@ pub chained : {start e : Cursor} {k : Kind} {s : Shape} {from to a b c : Number}
       count2 = c.value;
       params = p.count;
       next = e.at;
-    })
-    no_line
+    }))
+    None
     ≡ line_at text at
 chained text at h0 h1 h2 h3 h4 h5 h6 h7 h8 h9 h10 = cc (by_steps_lem text at)

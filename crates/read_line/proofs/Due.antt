@@ -14,7 +14,7 @@ use Rattle.read_bytes.specs.BytesModel.{is_end}
 use Rattle.read_fields.specs.declared.Cursor.{Cursor}
 use Rattle.read_fields.specs.declared.Number.{Number}
 use Rattle.read_fields.specs.declared.Name.{Name}
-use Rattle.read_line.specs.LineModel.{no_line}
+use Rattle.std.specs.Prelude.{Option, None}
 use Rattle.read_line.specs.StepsModel.{own_from, params_from, all_names}
 use Rattle.read_line.specs.declared.Params.{Params}
 use Rattle.read_line.specs.declared.Line.{Line}
@@ -92,16 +92,16 @@ abbrev pub left : Bool → List Part → Bool
 left params fs = cond params (all is_name_part fs) (eqb 0 (length fs))
 
 -- a line by how many parameters it has and where it ends
-abbrev ended : Params → (ℕ → ℕ → Line) → Line
-ended p line = cond (end_from p.next).ok (line p.count (end_from p.next).at) no_line
+abbrev ended : Params → (ℕ → ℕ → Option Line) → Option Line
+ended p line = cond (end_from p.next).ok (line p.count (end_from p.next).at) None
 
-abbrev pub end_line : Bool → Bytes → Cursor → (ℕ → ℕ → Line) → Line
+abbrev pub end_line : Bool → Bytes → Cursor → (ℕ → ℕ → Option Line) → Option Line
 end_line params text c line = ended (params_from params text c) line
 
-abbrev pub end_cut : Bool → Cut → (ℕ → ℕ → Line) → Line
-end_cut params l line = cond (l.ended && left params l.fields) (line (length l.fields) l.next) no_line
+abbrev pub end_cut : Bool → Cut → (ℕ → ℕ → Option Line) → Option Line
+end_cut params l line = cond (l.ended && left params l.fields) (line (length l.fields) l.next) None
 
-pub end_refused : (params : Bool) (text : Bytes) (c : Cursor) (line : ℕ → ℕ → Line) → c.ok ≡ false → end_line params text c line ≡ no_line
+pub end_refused : (params : Bool) (text : Bytes) (c : Cursor) (line : ℕ → ℕ → Option Line) → c.ok ≡ false → end_line params text c line ≡ None
 unfolding params_from
 end_refused true text c line h = rw h
 end_refused false text c line h = rw h
@@ -115,17 +115,17 @@ names_left text = where_ok (λ (c : Cursor). params_from true text c ≡ all_nam
     go at true = refl
     go at false = refl
 
-none_due : (text : Bytes) (line : ℕ → ℕ → Line) (at : ℕ) (more : Bool)
+none_due : (text : Bytes) (line : ℕ → ℕ → Option Line) (at : ℕ) (more : Bool)
     → (let c : Cursor = record { at = at; more = more; ok = true } in end_line false text c line ≡ end_cut false (to_come text c) line)
 unfolding params_from
 none_due text line at false = refl
 none_due text line at true = rw (unroll text at) (go (is_end (end_byte text at)) (to_come text (past text at)))
   where
-    go : (t : Bool) (l : Cut) → no_line ≡ end_cut false (cond t (before (field_of text at) l) (stop (field_of text at))) line
+    go : (t : Bool) (l : Cut) → None ≡ end_cut false (cond t (before (field_of text at) l) (stop (field_of text at))) line
     go true l = rw (eqb-zero-suc, and-false)
     go false l = refl
 
-pub end_taken : (params : Bool) (text : Bytes) (line : ℕ → ℕ → Line) (c : Cursor) → c.ok ≡ true
+pub end_taken : (params : Bool) (text : Bytes) (line : ℕ → ℕ → Option Line) (c : Cursor) → c.ok ≡ true
     → end_line params text c line ≡ end_cut params (to_come text c) line
 end_taken false text line c h = where_ok (λ (c : Cursor). end_line false text c line ≡ end_cut false (to_come text c) line) (none_due text line) c h
 end_taken true text line c h = ap (λ (p : Params). ended p line) (names_left text c h) ∙ go (l.ended && all is_name_part l.fields)
@@ -136,6 +136,6 @@ end_taken true text line c h = ap (λ (p : Params). ended p line) (names_left te
     params : Bool → Params
     params t = cond t (record { count = length l.fields; next = record { at = l.next; more = false; ok = true } }) (record { count = 0; next = refused })
 
-    go : (t : Bool) → ended (params t) line ≡ cond t (line (length l.fields) l.next) no_line
+    go : (t : Bool) → ended (params t) line ≡ cond t (line (length l.fields) l.next) None
     go true = refl
     go false = refl

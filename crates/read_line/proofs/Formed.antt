@@ -11,7 +11,9 @@ use lib.ListN.{length, get_or, take, drop, length-drop, get_or-map, drop_of_leng
 use lib.Seq.{drop-drop, get_or-take, get_or-drop}
 use borrow.Author.Tests.{leb-true, le-leb, eqb-true, eq-eqb}
 use Rattle.spec_text.specs.Bytes.{Bytes, Part, no_part, all, is_name, is_number, value_of, largest_span, largest_count}
-use Rattle.spec_text.specs.Lines.{Word, well_formed, parsed, sort_of}
+use Rattle.spec_text.specs.Lines.{Word, well_formed, parsed}
+use Rattle.spec_text.specs.declared.sort.Sort.{Sort}
+use Rattle.read_words.specs.WordsModel.{sort_in}
 use Rattle.spec_text.proofs.Lists.{and_split}
 use Rattle.read_fields.specs.FieldsModel.{hash_of}
 use Rattle.read_line.specs.LineModel.{numbers_of}
@@ -115,11 +117,10 @@ formed_rows w fs = iff (well_formed w fs) (by_rows w fs) (there (spans w) (names
 
 -- ---- what is read
 -- a line by the fields of its span, of its name and of its counts, how many parameters it has, and where it ends
-abbrev pub of_parts : ℕ → ℕ → List Part → List Part → List Part → ℕ → ℕ → Line
+abbrev pub of_parts : ℕ → Sort → List Part → List Part → List Part → ℕ → ℕ → Line
 of_parts kind sort span own counts params next =
     let x = get_or own 0 no_part in
     record {
-      ok = true;
       kind = kind;
       sort = sort;
       start = number_at span 0;
@@ -149,7 +150,7 @@ pub parsed_rows : (n : ℕ) (w : Word) (fs : List Part) (next : ℕ)
     → numbers_of (parsed n w fs) next
     ≡ (let g = drop (spans w) fs in
     let h = drop (names w) g in
-    of_parts n (sort_of w.form) (take (spans w) fs) (take (names w) g) (take w.counts h) (length (drop w.counts h)) next)
+    of_parts n (sort_in w.form) (take (spans w) fs) (take (names w) g) (take w.counts h) (length (drop w.counts h)) next)
 parsed_rows n w fs next =
     let counts : List Part = take w.counts (drop (spans w + names w) fs) in
     rw (span_at w.spanned fs 0 (omega arith), span_at w.spanned fs 1 (omega arith), name_at_lem w.named (spans w) fs)

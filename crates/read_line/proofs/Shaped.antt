@@ -7,11 +7,12 @@ use native.Mathlib.Omega.{arith}
 use lib.Dec.{ltb}
 use lib.ListN.{take, drop}
 use Rattle.spec_text.specs.Bytes.{Bytes, is_name, largest_span, largest_count}
-use Rattle.spec_text.specs.Lines.{Word, Cut, well_formed, parsed, sort_of}
+use Rattle.spec_text.specs.Lines.{Word, Cut, well_formed, parsed}
 use Rattle.read_fields.specs.declared.Cursor.{Cursor}
 use Rattle.read_fields.specs.declared.Name.{Name}
-use Rattle.read_line.specs.LineModel.{no_line, numbers_of as line_of}
-use Rattle.read_words.specs.WordsModel.{of_word}
+use Rattle.read_line.specs.LineModel.{numbers_of as line_of}
+use Rattle.std.specs.Prelude.{Option, None, Some}
+use Rattle.read_words.specs.WordsModel.{of_word, sort_in}
 use Rattle.read_line.specs.StepsModel.{span_from, count_from, own_from, shaped}
 use Rattle.read_line.specs.declared.Line.{Line}
 use Rattle.read_line.proofs.Cut.{to_come}
@@ -20,12 +21,12 @@ use Rattle.read_line.proofs.Due.{Numbers, numbers_if, numbers_of, numbers_row, n
 use Rattle.read_line.proofs.Formed.{spans, names, is_span, is_count, by_rows, formed_rows, of_parts, parsed_rows}
 
 -- the line of a word and the fields to come, by the table
-abbrev pub line_in : Word → ℕ → Cut → Line
-line_in w n l = cond (l.ended && well_formed w l.fields) (line_of (parsed n w l.fields) l.next) no_line
+abbrev pub line_in : Word → ℕ → Cut → Option Line
+line_in w n l = cond (l.ended && well_formed w l.fields) (Some (line_of (parsed n w l.fields) l.next)) None
 
 -- the line by its rows
-abbrev of_rows : Word → ℕ → Bytes → Row → Row → Row → Line
-of_rows w n text a b d = end_line w.params text d.next (λ params next. of_parts n (sort_of w.form) a.parts b.parts d.parts params next)
+abbrev of_rows : Word → ℕ → Bytes → Row → Row → Row → Option Line
+of_rows w n text a b d = end_line w.params text d.next (λ params next. Some (of_parts n (sort_in w.form) a.parts b.parts d.parts params next))
 
 abbrev span_row : Word → Bytes → Cursor → Row
 span_row w text c = row_from (spans w) is_span text c
@@ -37,14 +38,13 @@ abbrev count_row : Word → Bytes → Cursor → Row
 count_row w text c = row_from w.counts is_count text c
 
 -- the line by what its steps found
-abbrev found : Word → ℕ → Bytes → Numbers → Name → Numbers → Line
+abbrev found : Word → ℕ → Bytes → Numbers → Name → Numbers → Option Line
 found w n text s x d =
     end_line w.params text d.next
     (λ params next.
-    record {
-      ok = true;
+    Some (record {
       kind = n;
-      sort = sort_of w.form;
+      sort = sort_in w.form;
       start = s.first;
       end = s.second;
       name = x.at;
@@ -55,7 +55,7 @@ found w n text s x d =
       count2 = d.third;
       params = params;
       next = next;
-    })
+    }))
 
 spans_row : (due : Bool) (text : Bytes) (c : Cursor) → numbers_if due due false largest_span text c ≡ numbers_of (row_from (cond due 2 0) is_span text c)
 spans_row true text c = numbers_row 2 largest_span text c (omega arith)
@@ -88,7 +88,7 @@ and_later e x y h k = rw (h, k)
 module _ (w : Word) (n : ℕ) (text : Bytes) (l : Cut) (a b d : Row) where
   refused_line_lem : d.next.ok ≡ false → (l.ended && by_rows w l.fields) ≡ false → of_rows w n text a b d ≡ line_in w n l
   refused_line_lem h e =
-      end_refused w.params text d.next (λ params next. of_parts n (sort_of w.form) a.parts b.parts d.parts params next) h
+      end_refused w.params text d.next (λ params next. Some (of_parts n (sort_in w.form) a.parts b.parts d.parts params next)) h
       ∙ sym (rw (formed_rows w l.fields, e))
 
   taken_line : begins (spans w) is_span l.fields ≡ true
@@ -101,7 +101,7 @@ module _ (w : Word) (n : ℕ) (text : Bytes) (l : Cut) (a b d : Row) where
       → to_come text d.next ≡ without w.counts (without (names w) (without (spans w) l))
       → of_rows w n text a b d ≡ line_in w n l
   taken_line p q r x y z h e =
-      end_taken w.params text (λ params next. of_parts n (sort_of w.form) a.parts b.parts d.parts params next) d.next h
+      end_taken w.params text (λ params next. Some (of_parts n (sort_in w.form) a.parts b.parts d.parts params next)) d.next h
       ∙ rw (e, x, y, z, formed_rows w l.fields, p, q, r, parsed_rows n w l.fields l.next)
 
   by_rows_lem : Taken (spans w) is_span text l a

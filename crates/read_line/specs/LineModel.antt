@@ -1,21 +1,17 @@
 -- A line of the tree text as numbers: what the reader keeps of it. By the fields and the table of words of crate `spec_text`.
-use Rattle.std.specs.Prelude.{ℕ, true, false, length, drop}
+use Rattle.std.specs.Prelude.{ℕ, Option, None, Some, true, false, length, drop}
 use Rattle.std.proofs.Math.Option.{none, some}
 use Rattle.spec_text.specs.Bytes.{Bytes}
-use Rattle.spec_text.specs.Lines.{Cut, cut, Parsed, parse, count_at, sort_of}
+use Rattle.spec_text.specs.Lines.{Cut, cut, Parsed, parse, count_at}
+use Rattle.read_words.specs.WordsModel.{sort_in}
 use Rattle.read_fields.specs.FieldsModel.{hash_of}
 use Rattle.read_line.specs.declared.Line.{Line}
-
--- no line: it is refused
-abbrev pub no_line : Line
-no_line = record { ok = false; kind = 0; sort = 0; start = 0; end = 0; name = 0; len = 0; hash = 0; count0 = 0; count1 = 0; count2 = 0; params = 0; next = 0 }
 
 -- a line that is well formed, and the offset of the line after it
 abbrev pub numbers_of : Parsed → ℕ → Line
 numbers_of p next = record {
-  ok = true;
   kind = p.line.word;
-  sort = sort_of p.form;
+  sort = sort_in p.form;
   start = p.line.start;
   end = p.line.end;
   name = p.line.name.offset;
@@ -28,9 +24,9 @@ numbers_of p next = record {
   next = next;
 }
 
-abbrev pub cut_line : Cut → Line
-cut_line c = elim c.ended [ true ↦ elim (parse c.fields) [ some p ↦ numbers_of p c.next | none ↦ no_line ] | false ↦ no_line ]
+abbrev pub cut_line : Cut → Option Line
+cut_line c = elim c.ended [ true ↦ elim (parse c.fields) [ some p ↦ Some (numbers_of p c.next) | none ↦ None ] | false ↦ None ]
 
--- the line that starts at an offset
-unfoldable pub line_at : Bytes → ℕ → Line
+-- the line that starts at an offset, if it is one
+unfoldable pub line_at : Bytes → ℕ → Option Line
 line_at text at = cut_line (cut at (drop at text))

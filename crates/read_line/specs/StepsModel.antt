@@ -1,12 +1,11 @@
 -- The steps of a cursor through a line: its word, its span, its name, its counts, its parameters, its end.
-use Rattle.std.specs.Prelude.{ℕ, Bool, true, false, cond, ◌&&◌, ltb, length, drop}
+use Rattle.std.specs.Prelude.{ℕ, Option, None, Some, Bool, true, false, cond, ◌&&◌, ltb, length, drop}
 use Rattle.spec_text.specs.Bytes.{Bytes, Part, all, is_name, largest_span, largest_count}
 use Rattle.spec_text.specs.Lines.{Cut, cut}
 use Rattle.read_fields.specs.FieldsModel.{refused, start_at, number_from, name_from, end_from}
 use Rattle.read_fields.specs.declared.Cursor.{Cursor}
 use Rattle.read_fields.specs.declared.Number.{Number}
 use Rattle.read_fields.specs.declared.Name.{Name}
-use Rattle.read_line.specs.LineModel.{no_line}
 use Rattle.read_words.specs.WordsModel.{kind_from, shape_of}
 use Rattle.read_words.specs.declared.Kind.{Kind}
 use Rattle.read_words.specs.declared.Shape.{Shape}
@@ -37,7 +36,7 @@ unfoldable pub params_from : Bool → Bytes → Cursor → Params
 params_from due text c = cond (due && (c.ok && c.more)) (all_names (cut c.at (drop c.at text))) (no_params c)
 
 -- ---- the whole line
-abbrev pub shaped : Shape → Kind → Bytes → Line
+abbrev pub shaped : Shape → Kind → Bytes → Option Line
 shaped s k text =
     let from = span_from s.spanned text k.next in
     let to = span_from s.spanned text from.next in
@@ -47,8 +46,7 @@ shaped s k text =
     let c = count_from (ltb 2 s.counts) text b.next in
     let p = params_from s.params text c.next in
     cond (end_from p.next).ok
-    (record {
-      ok = true;
+    (Some (record {
       kind = k.kind;
       sort = s.sort;
       start = from.value;
@@ -61,8 +59,8 @@ shaped s k text =
       count2 = c.value;
       params = p.count;
       next = (end_from p.next).at;
-    })
-    no_line
+    }))
+    None
 
-abbrev pub by_steps : Bytes → ℕ → Line
+abbrev pub by_steps : Bytes → ℕ → Option Line
 by_steps text at = let k = kind_from text (start_at at) in shaped (shape_of k.kind) k text

@@ -2,23 +2,23 @@
 #![tactic(auto)]
 
 ghost use Rattle.std.specs.Prelude.{◌≡◌};
-ghost use Rattle.read_line.specs.LineModel.{line_at, no_line};
+ghost use Rattle.read_line.specs.LineModel.{line_at};
 ghost use Rattle.read_line.specs.StepsModel.{span_from, count_from, own_from, params_from};
 
 use read_fields::{Cursor, Name, Number};
+use spec_text::Sort;
 
 // The largest s or e of a span, and the largest count.
 const LARGEST_SPAN: u32 = 4294967295;
 
 const LARGEST_COUNT: u32 = 4096;
 
-// A line as numbers: the word's place in the table, the class of places where it is due, its span, its own name with its hash,
+// A line: the word's place in the table, where it is due, its span, its own name with its hash,
 // its counts, how many parameters it has, and where the next line starts. What it has not is 0.
 #[derive(Clone, Copy)]
 pub struct Line {
-    pub ok: bool,
     pub kind: usize,
-    pub sort: usize,
+    pub sort: Sort,
     pub start: u32,
     pub end: u32,
     pub name: usize,
@@ -102,28 +102,8 @@ fn params_of(c: Cursor, text: &[u8], due: bool) -> Params
     }
 }
 
-fn no_line() -> Line
-    ensures { result ≡ no_line }
-{
-    Line {
-        ok: false,
-        kind: 0,
-        sort: 0,
-        start: 0,
-        end: 0,
-        name: 0,
-        len: 0,
-        hash: 0,
-        count0: 0,
-        count1: 0,
-        count2: 0,
-        params: 0,
-        next: 0,
-    }
-}
-
 // The line that starts at an offset.
-pub fn line_at(text: &[u8], at: usize) -> Line
+pub fn line_at(text: &[u8], at: usize) -> Option<Line>
     ensures { result ≡ line_at text.now at }
 {
     let k = read_words::kind_of(text, Cursor::start(at));
@@ -137,8 +117,7 @@ pub fn line_at(text: &[u8], at: usize) -> Line
     let p = params_of(c.next, text, s.params);
     let e = p.next.line_end();
     if e.ok {
-        Line {
-            ok: true,
+        Some(Line {
             kind: k.kind,
             sort: s.sort,
             start: from.value,
@@ -151,8 +130,8 @@ pub fn line_at(text: &[u8], at: usize) -> Line
             count2: c.value,
             params: p.count,
             next: e.at,
-        }
+        })
     } else {
-        no_line()
+        None
     }
 }

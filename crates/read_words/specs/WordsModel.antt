@@ -1,7 +1,9 @@
 -- The words of the table, as a cursor meets one: its place in the table, and the shape of its line.
 use Rattle.std.specs.Prelude.{ℕ, suc, Bool, true, false, cond, List, [], ◌∷◌, ltb, length, get_or}
 use Rattle.spec_text.specs.Bytes.{Bytes, same}
-use Rattle.spec_text.specs.Lines.{Word, words, Form, sort_of}
+use Rattle.spec_text.specs.Lines.{Word, words, Form}
+use Rattle.spec_text.specs.declared.sort.Sort.{Sort}
+use Rattle.spec_text.specs.declared.sort.Sort.TheVariants as S
 use Rattle.read_fields.specs.FieldsModel.{field_at, refused, past, takes}
 use Rattle.read_fields.specs.declared.Cursor.{Cursor}
 use Rattle.read_words.specs.declared.Kind.{Kind}
@@ -30,8 +32,18 @@ or_word k n word text c = cond k.next.ok k (cond (takes (λ x. same x word) text
 abbrev pub no_word : Word
 no_word = record { spelling = []; spanned = false; named = false; counts = 0; params = false; form = Form.tree }
 
+-- where a line of a form is due
+abbrev pub sort_in : Form → Sort
+sort_in Form.tree = S.Tree
+sort_in Form.global = S.Global
+sort_in Form.elif = S.Elif
+sort_in Form.method = S.Method
+sort_in Form.attr = S.Attr
+sort_in (Form.stmt f) = S.Stmt
+sort_in (Form.expr f) = S.Expr
+
 abbrev pub of_word : Word → Shape
-of_word w = record { spanned = w.spanned; named = w.named; counts = w.counts; params = w.params; sort = sort_of w.form }
+of_word w = record { spanned = w.spanned; named = w.named; counts = w.counts; params = w.params; sort = sort_in w.form }
 
 unfoldable pub shape_of : ℕ → Shape
 shape_of k = of_word (get_or words k no_word)

@@ -6,7 +6,7 @@ ghost use Rattle.read_words.specs.WordsModel.{no_kind, kind_from, or_word, shape
 ghost use Rattle.read_words.specs.ChildrenModel.{children_by};
 
 use read_fields::Cursor;
-use spec_text::{line_kind, sort};
+use spec_text::{Sort, line_kind};
 
 // A word's place in the table.
 #[derive(Clone, Copy)]
@@ -22,7 +22,7 @@ pub struct Shape {
     pub named: bool,
     pub counts: usize,
     pub params: bool,
-    pub sort: usize,
+    pub sort: Sort,
 }
 
 // How many lines of each sort are due below a line, in their order.
@@ -119,7 +119,7 @@ pub fn kind_of(text: &[u8], c: Cursor) -> Kind
     }
 }
 
-fn row(spanned: bool, named: bool, counts: usize, params: bool, sort: usize) -> Shape
+fn row(spanned: bool, named: bool, counts: usize, params: bool, sort: Sort) -> Shape
     ensures { result ≡ record { spanned = spanned; named = named; counts = counts; params = params; sort = sort } }
 {
     Shape {
@@ -136,36 +136,36 @@ pub fn shape_of(kind: usize) -> Shape
     ensures { result ≡ shape_of kind }
 {
     match kind {
-        line_kind::TREE => row(false, false, 2, false, sort::TREE),
-        line_kind::GLOBAL => row(false, true, 0, false, sort::GLOBAL),
-        line_kind::BREAK => row(true, false, 0, false, sort::STMT),
-        line_kind::CONTINUE => row(true, false, 0, false, sort::STMT),
-        line_kind::PASS => row(true, false, 0, false, sort::STMT),
-        line_kind::DEF => row(true, true, 1, true, sort::STMT),
-        line_kind::ASSIGN => row(true, false, 0, false, sort::STMT),
-        line_kind::IF => row(true, false, 3, false, sort::STMT),
-        line_kind::ELIF => row(false, false, 1, false, sort::ELIF),
-        line_kind::WHILE => row(true, false, 1, false, sort::STMT),
-        line_kind::FOR => row(true, true, 1, false, sort::STMT),
-        line_kind::RETURN => row(true, false, 0, false, sort::STMT),
-        line_kind::EXPR => row(true, false, 0, false, sort::STMT),
-        line_kind::CLASS => row(true, true, 2, false, sort::STMT),
-        line_kind::METHOD => row(false, true, 1, true, sort::METHOD),
-        line_kind::ATTR => row(false, true, 0, false, sort::ATTR),
-        line_kind::LIT => row(true, false, 0, false, sort::EXPR),
-        line_kind::VAR => row(true, true, 0, false, sort::EXPR),
-        line_kind::UN => row(true, false, 0, false, sort::EXPR),
-        line_kind::BIN => row(true, false, 0, false, sort::EXPR),
-        line_kind::INDEX => row(true, false, 0, false, sort::EXPR),
-        line_kind::CALL => row(true, false, 1, false, sort::EXPR),
-        line_kind::GET => row(true, true, 0, false, sort::EXPR),
-        line_kind::LIST => row(true, false, 1, false, sort::EXPR),
-        line_kind::TUPLE => row(true, false, 1, false, sort::EXPR),
-        line_kind::SET => row(true, false, 1, false, sort::EXPR),
-        line_kind::TREESET => row(true, false, 1, false, sort::EXPR),
-        line_kind::DICT => row(true, false, 1, false, sort::EXPR),
-        line_kind::LAMBDA => row(true, false, 0, true, sort::EXPR),
-        _ => row(false, false, 0, false, sort::TREE),
+        line_kind::TREE => row(false, false, 2, false, Sort::Tree),
+        line_kind::GLOBAL => row(false, true, 0, false, Sort::Global),
+        line_kind::BREAK => row(true, false, 0, false, Sort::Stmt),
+        line_kind::CONTINUE => row(true, false, 0, false, Sort::Stmt),
+        line_kind::PASS => row(true, false, 0, false, Sort::Stmt),
+        line_kind::DEF => row(true, true, 1, true, Sort::Stmt),
+        line_kind::ASSIGN => row(true, false, 0, false, Sort::Stmt),
+        line_kind::IF => row(true, false, 3, false, Sort::Stmt),
+        line_kind::ELIF => row(false, false, 1, false, Sort::Elif),
+        line_kind::WHILE => row(true, false, 1, false, Sort::Stmt),
+        line_kind::FOR => row(true, true, 1, false, Sort::Stmt),
+        line_kind::RETURN => row(true, false, 0, false, Sort::Stmt),
+        line_kind::EXPR => row(true, false, 0, false, Sort::Stmt),
+        line_kind::CLASS => row(true, true, 2, false, Sort::Stmt),
+        line_kind::METHOD => row(false, true, 1, true, Sort::Method),
+        line_kind::ATTR => row(false, true, 0, false, Sort::Attr),
+        line_kind::LIT => row(true, false, 0, false, Sort::Expr),
+        line_kind::VAR => row(true, true, 0, false, Sort::Expr),
+        line_kind::UN => row(true, false, 0, false, Sort::Expr),
+        line_kind::BIN => row(true, false, 0, false, Sort::Expr),
+        line_kind::INDEX => row(true, false, 0, false, Sort::Expr),
+        line_kind::CALL => row(true, false, 1, false, Sort::Expr),
+        line_kind::GET => row(true, true, 0, false, Sort::Expr),
+        line_kind::LIST => row(true, false, 1, false, Sort::Expr),
+        line_kind::TUPLE => row(true, false, 1, false, Sort::Expr),
+        line_kind::SET => row(true, false, 1, false, Sort::Expr),
+        line_kind::TREESET => row(true, false, 1, false, Sort::Expr),
+        line_kind::DICT => row(true, false, 1, false, Sort::Expr),
+        line_kind::LAMBDA => row(true, false, 0, true, Sort::Expr),
+        _ => row(false, false, 0, false, Sort::Tree),
     }
 }
 
