@@ -4,8 +4,13 @@ use Rattle.std.proofs.Math.Option.{none, some}
 use Rattle.spec_text.specs.Bytes.{Bytes}
 use Rattle.spec_text.specs.Lines.{Cut, cut, Parsed, parse, count_at}
 use Rattle.read_words.specs.WordsModel.{sort_in}
+use Rattle.spec_text.specs.declared.sort.Sort.TheVariants.{Tree}
 use Rattle.read_fields.specs.FieldsModel.{hash_of}
 use Rattle.read_line.specs.declared.Line.{Line}
+
+-- what stands for a line where there is none
+abbrev pub no_line : Line
+no_line = record { kind = 0; sort = Tree; start = 0; end = 0; name = 0; len = 0; hash = 0; count0 = 0; count1 = 0; count2 = 0; params = 0; next = 0 }
 
 -- a line that is well formed, and the offset of the line after it
 abbrev pub numbers_of : Parsed → ℕ → Line

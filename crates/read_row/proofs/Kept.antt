@@ -3,7 +3,7 @@
 use Prim.Native.Nat.{ℕ, ◌/◌, ◌%◌, ◌<◌}
 use native.Mathlib.Omega.{arith}
 use mathlib.Core.Path.{◌≡◌, sym, ap, subst, ◌∙◌}
-use mathlib.Core.Bool.{true}
+use Rattle.std.specs.Prelude.{Some}
 use mathlib.Core.List.{List, [], ◌∷◌, map}
 use lib.ListN.{length, get_or, length-map, get_or-map}
 use lib.Seq.{get_or-take}
@@ -16,8 +16,8 @@ use Rattle.read_names.specs.Names.{earliest}
 use Rattle.work_rows.specs.Rows.{Row}
 use Rattle.read_tree.specs.Laid.{Holds, number_of, name_in, start_of, no_row}
 use Rattle.read_tree.proofs.ParsedFacts.{ParsedFacts, parsed_facts}
-use Rattle.read_row.specs.RowModel.{line_start, params_of, line_of_row}
-use Rattle.read_row.specs.Worded.{Some}
+use Rattle.read_row.specs.RowModel.{line_start, params_of, or_no_line, line_of_row}
+use Rattle.read_row.specs.Worded.{Some as HasBytes}
 use Rattle.read_row.proofs.OnLine.{On, cut_on}
 use Rattle.read_row.proofs.Runs.{cut_at, Stands, Again}
 use Rattle.read_row.proofs.Tails.{ParamWord, kept, stands_params}
@@ -40,13 +40,12 @@ stands_start {text} {at} h = subst (λ (l : Line). line_start text (kept at l.na
     go (b ∷ bs) f = f (λ e. let z : ◌≡◌ {A = ℕ} 0 1 = cc in omega arith)
 
 -- it is read as the numbers that the reader keeps of it
-stands_numbers : {text : Bytes} {at : ℕ} {l : Line} (h : Stands text at l) → line_at text at ≡ numbers_of h.parsed (cut_at text at).next
+stands_numbers : {text : Bytes} {at : ℕ} {l : Line} (h : Stands text at l) → line_at text at ≡ Some (numbers_of h.parsed (cut_at text at).next)
 unfolding line_at
 stands_numbers h = rw (h.ended, cut_line) (rw h.is)
 
 -- ---- a line of the text as a row shows it
 pub record Shown (text : Bytes) (w : List ℕ) (i : ℕ) (l : Line) : Type 0 where
-  pub ok : (line_of_row text w i).ok ≡ true
   pub kind : (line_of_row text w i).kind ≡ l.word
   pub start : (line_of_row text w i).start ≡ l.start
   pub end : (line_of_row text w i).end ≡ l.end
@@ -73,10 +72,9 @@ module _ {text : Bytes} {rows : List Row} {w : List ℕ} (h : Holds text rows w)
     unfolding line_of_row
     line_kept =
         let s : line_start text (offset_at w i) ≡ start_of text i = ap (line_start text) (h.offsets i l) ∙ stands_start a in
-        let n : line_of_row text w i ≡ numbers_of a.parsed (cut_at text (start_of text i)).next = ap (line_at text) s ∙ stands_numbers a in
+        let n : line_of_row text w i ≡ numbers_of a.parsed (cut_at text (start_of text i)).next = ap or_no_line (ap (line_at text) s ∙ stands_numbers a) in
         let of : (f : Numbers → ℕ) → f (line_of_row text w i) ≡ f (numbers_of a.parsed (cut_at text (start_of text i)).next) = λ f. ap f n in
         record {
-          ok = ap (λ (x : Numbers). x.ok) n;
           kind = of (λ x. x.kind) ∙ ap (λ (y : Line). y.word) a.line;
           start = of (λ x. x.start) ∙ ap (λ (y : Line). y.start) a.line;
           end = of (λ x. x.end) ∙ ap (λ (y : Line). y.end) a.line;
@@ -84,7 +82,7 @@ module _ {text : Bytes} {rows : List Row} {w : List ℕ} (h : Holds text rows w)
           len = of (λ x. x.len) ∙ ap (λ (y : Line). length y.name.bytes) a.line;
         }
 
-  pub number_kept : Some (get_or rows i no_row).line.name → number_at w i ≡ earliest (map name_in rows) (get_or rows i no_row).line.name.bytes
+  pub number_kept : HasBytes (get_or rows i no_row).line.name → number_at w i ≡ earliest (map name_in rows) (get_or rows i no_row).line.name.bytes
   number_kept some =
       let e : get_or (map name_in rows) i [] ≡ name_in (get_or rows i no_row) = get_or-map name_in rows i no_row in
       let n : i < length (map name_in rows) = omega (arith, length-map rows name_in) in

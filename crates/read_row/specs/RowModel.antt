@@ -1,10 +1,10 @@
 -- The line of a row, read again from the text: its span and name, and its parameters. A row keeps where its name starts, or its line if it
 -- has no name.
-use Rattle.std.specs.Prelude.{ℕ, zero, suc, cond, List, [], eqb, get_or, drop}
+use Rattle.std.specs.Prelude.{ℕ, zero, suc, cond, List, [], eqb, get_or, drop, Option, Some, None}
 use Rattle.spec_text.specs.Bytes.{Bytes, Part}
 use Rattle.spec_text.specs.Lines.{cut}
 use Rattle.read_fields.specs.declared.Cursor.{Cursor}
-use Rattle.read_line.specs.LineModel.{line_at}
+use Rattle.read_line.specs.LineModel.{line_at, no_line}
 use Rattle.read_line.specs.declared.Line.{Line}
 use Rattle.work_rows.specs.Layout.{kind_at, offset_at}
 
@@ -25,6 +25,11 @@ unfoldable pub line_start : Bytes → ℕ → ℕ
 line_start text zero = zero
 line_start text (suc n) = cond (eqb (get_or text n 0) 10) (suc n) (line_start text n)
 
+-- a line, or zeros where there is none
+abbrev pub or_no_line : Option Line → Line
+or_no_line (Some l) = l
+or_no_line None = no_line
+
 -- the line of row i
 unfoldable pub line_of_row : Bytes → List ℕ → ℕ → Line
-line_of_row text w i = line_at text (line_start text (offset_at w i))
+line_of_row text w i = or_no_line (line_at text (line_start text (offset_at w i)))

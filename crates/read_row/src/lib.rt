@@ -6,7 +6,23 @@ ghost use Rattle.read_row.specs.RowModel.{parts_from, params_of, line_start, lin
 
 use read_fields::Cursor;
 use read_line::Line;
-use spec_text::line_kind;
+use spec_text::{Sort, line_kind};
+
+// Where there is no line.
+const NO_LINE: Line = Line {
+    kind: 0,
+    sort: Sort::Tree,
+    start: 0,
+    end: 0,
+    name: 0,
+    len: 0,
+    hash: 0,
+    count0: 0,
+    count1: 0,
+    count2: 0,
+    params: 0,
+    next: 0,
+};
 
 // The cursor at the first parameter of row i.
 pub fn params(text: &[u8], work: &[u32], i: usize) -> Cursor
@@ -54,5 +70,5 @@ pub fn line_of_row(text: &[u8], work: &[u32], i: usize) -> Line
     requires { i < 4294967296 }
     ensures { result ≡ line_of_row text.now work.now i }
 {
-    read_line::line_at(text, line_start(text, work_rows::offset(work, i)))
+    read_line::line_at(text, line_start(text, work_rows::offset(work, i))).unwrap_or(NO_LINE)
 }
