@@ -3,10 +3,11 @@
 
 ghost use Rattle.std.specs.Prelude.{◌≡◌, length};
 ghost use Rattle.spec_text.specs.Reading.{reading};
-ghost use Rattle.read_tree.specs.Laid.{answer_of, Kept};
+ghost use Rattle.read_tree.specs.Laid.{in_numbers, answer_of, Kept};
 ghost use Rattle.bench_reader.specs.Numbers.{numbers_of};
 
-use read_tree::Read;
+use read_tree::Tree;
+use spec_text::Refused;
 
 #[repr(C)]
 #[derive(Clone, Copy)]
@@ -17,30 +18,32 @@ pub struct ReadNumbers {
     pub lines: usize,
 }
 
-fn in_numbers(r: Read) -> ReadNumbers
-    ensures { result ≡ numbers_of r }
-{
-    match r {
-        Read::Tree { globals, lines } => ReadNumbers {
-            refusal: 0,
-            line: 0,
-            globals: globals,
-            lines: lines,
-        },
-        Read::Refused { number, line } => ReadNumbers {
-            refusal: number,
-            line: line,
-            globals: 0,
-            lines: 0,
-        },
+impl From<Result<Tree, Refused>> for ReadNumbers {
+    ghost from_gives = { λ r n. n ≡ numbers_of (in_numbers r) };
+
+    fn from(r: Result<Tree, Refused>) -> ReadNumbers {
+        match r {
+            Ok(tree) => ReadNumbers {
+                refusal: 0,
+                line: 0,
+                globals: tree.globals,
+                lines: tree.lines,
+            },
+            Err(refused) => ReadNumbers {
+                refusal: refused.why.number(),
+                line: refused.line,
+                globals: 0,
+                lines: 0,
+            },
+        }
     }
 }
 
 // Reads a tree text into the work buffer.
 #[unsafe(no_mangle)]
 pub extern "C" fn serduzhap_read(text: &[u8], work: &mut [u32]) -> ReadNumbers
-    ensures value { result ≡ numbers_of (answer_of (reading text.now (length work.old))) }
+    ensures numbers { result ≡ numbers_of (answer_of (reading text.now (length work.old))) }
     ensures kept { Kept text.now (reading text.now (length work.old)) work.new }
 {
-    in_numbers(read_tree::read_tree(text, work))
+    ReadNumbers::from(read_tree::read_tree(text, work))
 }

@@ -14,8 +14,8 @@ use Rattle.spec_faults.specs.Faults.{faults}
 use Rattle.spec_faults.proofs.Theorems.{at_most_lines}
 use Rattle.work_rows.specs.Rows.{rows_t}
 use Rattle.read_tree.specs.Laid.{Holds, Answers}
-use Rattle.work_rows.proofs.Lengths.{rows_length}
-use Rattle.read_tree.specs.declared.Read.TheVariants as R
+use Rattle.read_tree.specs.declared.Tree.{Tree as Counts}
+use Rattle.std.specs.Prelude.{Ok}
 use Rattle.work_marks.proofs.Writes.{Words, Kept}
 use Rattle.read_row.specs.RowModel.{line_of_row}
 use Rattle.read_row.specs.Worded.{WordedSs}
@@ -29,7 +29,6 @@ use Rattle.report_order.specs.OrderModel.{entries, stored, any_fault}
 use Rattle.proof_order.specs.Shown.{Shows, Pairs, line_in}
 use Rattle.proof_order.proofs.Theorems.{found, entries_shown, entries_none}
 use Rattle.find_faults.specs.Found.{Listed, Finds}
-use Rattle.find_faults.specs.declared.Answer.TheVariants as A
 use Rattle.find_faults.proofs.RowsForWalk.{numbers, numbers_rows, globals_named, table_held, no_lambdas_lem}
 use Rattle.find_faults.proofs.Fitting.{fault_of_lem, faults_fit}
 use Rattle.find_faults.proofs.RecordsRead.{Reads, pairs_length, pair_at, record_shown}
@@ -68,9 +67,9 @@ module _ (text : Bytes) (work : ℕ) (t : Tree) (e : reading text work ≡ tree 
       let a = line_again text work t e w h i l in
       rw (kept.seconds i (omega (arith, table.few))) (record { start = a.start; end = a.end; name = a.name; len = a.len })
 
-  finds : Finds text (tree t) (stored listed 0 after) (A.Faults (length listed))
+  finds : Finds text (tree t) (stored listed 0 after) (Ok (length listed))
   finds = record {
-    answer = ap A.Faults (pairs_length shown);
+    answer = ap Ok (pairs_length shown);
     kept = (every, (omega (arith, text_length text work t e), omega (arith, few)));
   }
     where
@@ -93,7 +92,7 @@ module _ (text : Bytes) (work : ℕ) (t : Tree) (e : reading text work ≡ tree 
 
   -- the same by what the calls leave and count
   finds_by : {g n m : ℕ} {v z : List ℕ} → g ≡ length t.globals → n ≡ length (rows_t t) → v ≡ walked text g n w → z ≡ stored (entries v g n) 0 v → m ≡ length (entries v g n)
-      → Finds text (tree t) z (A.Faults m)
+      → Finds text (tree t) z (Ok m)
   finds_by i j walk list count = rw (count, list, walk, i, j) finds
 
   none_by : {g n : ℕ} {v : List ℕ} → g ≡ length t.globals → n ≡ length (rows_t t) → v ≡ walked text g n w → any_fault v g n ≡ false → entries v g n ≡ []
@@ -101,51 +100,31 @@ module _ (text : Bytes) (work : ℕ) (t : Tree) (e : reading text work ≡ tree 
 
 -- ---- by the reader's answer
 -- the answer with so many globals and lines is that of a tree
-record TreeRead (text : Bytes) (x : Reading) (w : List ℕ) (g n : ℕ) : Type 0 where
+record TreeRead (text : Bytes) (x : Reading) (w : List ℕ) (r : Counts) : Type 0 where
   tree' : Tree
   is : x ≡ tree tree'
-  globals : g ≡ length tree'.globals
-  lines : n ≡ length (rows_t tree')
+  globals : r.globals ≡ length tree'.globals
+  lines : r.lines ≡ length (rows_t tree')
   holds : Holds text (rows_t tree') w
 
-tree_read : (text : Bytes) (x : Reading) {w : List ℕ} {g n : ℕ} → Answers text x w (R.Tree g n) → TreeRead text x w g n
-tree_read text (tree t) {g} {n} a =
-    let q : R.Tree g n ≡ R.Tree (length t.globals) (length (rows_t t)) = a.answer in
-    record { tree' = t; is = refl; globals = cc; lines = cc; holds = a.kept }
-tree_read text (refusal k m) {g} {n} a =
-    let q : R.Tree g n ≡ R.Refused k m = a.answer in
-    let z : ◌≡◌ {A = ℕ} 0 1 = cc in
-    absurd (omega arith)
+tree_read : (text : Bytes) (x : Reading) {w : List ℕ} {r : Counts} → Answers text x w (Ok r) → TreeRead text x w r
+tree_read text (tree t) {r = r} a =
+    let counts : Counts = record { globals = length t.globals; lines = length (rows_t t) } in
+    let q : r ≡ counts = cc a.answer in
+    record { tree' = t; is = refl; globals = ap (λ (c : Counts). c.globals) q; lines = ap (λ (c : Counts). c.lines) q; holds = a.kept }
+tree_read text (refusal k m) a = let z : ◌≡◌ {A = ℕ} 0 1 = cc a.answer in absurd (omega arith)
 
-module _ (text : Bytes) (work : ℕ) {w : List ℕ} {g n : ℕ} (a : Answers text (reading text work) w (R.Tree g n)) where
-  pub tree_counts : (g ≤ 4_096) × (n ≤ 4_096)
-  tree_counts =
-      let r = tree_read text (reading text work) a in
-      let l = tree_lines text work r.tree' r.is in
-      (omega (arith, r.globals), omega (arith, r.lines, rows_length r.tree'))
-
-  pub tree_room : 16_384 ≤ length w
-  tree_room = (tree_read text (reading text work) a).holds.names.room
-
-  pub finds_faults : Words w → {v z : List ℕ} {m : ℕ} → v ≡ walked text g n w → z ≡ stored (entries v g n) 0 v → m ≡ length (entries v g n)
-      → Finds text (reading text work) z (A.Faults m)
+module _ (text : Bytes) (work : ℕ) {w : List ℕ} {r : Counts} (a : Answers text (reading text work) w (Ok r)) where
+  pub finds_faults : Words w → {v z : List ℕ} {m : ℕ} → v ≡ walked text r.globals r.lines w → z ≡ stored (entries v r.globals r.lines) 0 v
+      → m ≡ length (entries v r.globals r.lines) → Finds text (reading text work) z (Ok m)
   finds_faults words {v} {z} {m} walk list count =
-      let r = tree_read text (reading text work) a in
-      subst (λ x. Finds text x z (A.Faults m)) (sym r.is) (finds_by text work r.tree' r.is w r.holds words r.globals r.lines walk list count)
+      let t = tree_read text (reading text work) a in
+      subst (λ x. Finds text x z (Ok m)) (sym t.is) (finds_by text work t.tree' t.is w t.holds words t.globals t.lines walk list count)
 
   -- where no slot has a fault, there is nothing to list
-  pub finds_none : Words w → {v : List ℕ} → v ≡ walked text g n w → any_fault v g n ≡ false → Finds text (reading text work) v (A.Faults 0)
+  pub finds_none : Words w → {v : List ℕ} → v ≡ walked text r.globals r.lines w → any_fault v r.globals r.lines ≡ false → Finds text (reading text work) v (Ok 0)
   unfolding stored
   finds_none words {v} walk e =
-      let r = tree_read text (reading text work) a in
-      let q : entries v g n ≡ [] = none_by text work r.tree' r.is w r.holds words r.globals r.lines walk e in
+      let t = tree_read text (reading text work) a in
+      let q : entries v r.globals r.lines ≡ [] = none_by text work t.tree' t.is w t.holds words t.globals t.lines walk e in
       finds_faults words walk (ap (λ es. stored es 0 v) (sym q)) (ap length (sym q))
-
-pub finds_refusal : (text : Bytes) (x : Reading) {w v : List ℕ} {k n : ℕ} → Answers text x w (R.Refused k n) → Finds text x v (A.Refused k n)
-finds_refusal text (tree t) {k} {n} a =
-    let q : R.Refused k n ≡ R.Tree (length t.globals) (length (rows_t t)) = a.answer in
-    let z : ◌≡◌ {A = ℕ} 0 1 = cc in
-    absurd (omega arith)
-finds_refusal text (refusal l m) {k} {n} a =
-    let q : R.Refused k n ≡ R.Refused l m = a.answer in
-    record { answer = cc; kept = tt }

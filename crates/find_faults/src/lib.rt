@@ -7,35 +7,19 @@ ghost use Rattle.report_order.specs.OrderModel.{entry_at};
 ghost use Rattle.report_records.specs.RecordsModel.{record_of};
 ghost use Rattle.find_faults.specs.Found.{Finds};
 
-use read_tree::Read;
 use report_records::Record;
+use spec_text::Refused;
 
-// So many faults, listed in the work buffer; or a refusal, by number and line.
-#[derive(Clone, Copy)]
-pub enum Answer {
-    Faults { count: usize },
-    Refused { number: usize, line: usize },
-}
-
-// Reads the tree, walks it, and lists its faults, if there are any.
-pub fn find(text: &[u8], work: &mut [u32]) -> Answer
+// Reads the tree, walks it, and lists its faults in the work buffer. Hands back how many there are.
+pub fn find(text: &[u8], work: &mut [u32]) -> Result<usize, Refused>
     ensures { Finds text.now (reading text.now (length work.old)) work.new result }
 {
-    match read_tree::read_tree(text, work) {
-        Read::Tree { globals, lines } => {
-            walk_tree::walk(text, work, globals, lines);
-            if !report_order::any_fault(work, globals, lines) {
-                return Answer::Faults { count: 0 };
-            }
-            Answer::Faults {
-                count: report_order::list_faults(work, globals, lines),
-            }
-        }
-        Read::Refused { number, line } => Answer::Refused {
-            number: number,
-            line: line,
-        },
+    let tree = read_tree::read_tree(text, work)?;
+    walk_tree::walk(text, work, tree.globals, tree.lines);
+    if !report_order::any_fault(work, tree.globals, tree.lines) {
+        return Ok(0);
     }
+    Ok(report_order::list_faults(work, tree.globals, tree.lines))
 }
 
 // The record of fault j.

@@ -5,4 +5,3 @@ pub mod Lined
 pub mod Sorts
 pub mod Via
 pub mod FirstTest
-pub mod Pushes

@@ -24,7 +24,7 @@ close_word i = 7 + 1_024 * i
 unfoldable pub pushed : ℕ → ℕ → ℕ → Stack → Stack
 pushed s n d x = cond (eqb n 0) x (stack (put x.work (agenda_base + x.top) (run_word s n d)) (x.top + 1))
 
-unfoldable pub pushed_close : ℕ → Stack → Stack
+abbrev pub pushed_close : ℕ → Stack → Stack
 pushed_close i x = stack (put x.work (agenda_base + x.top) (close_word i)) (x.top + 1)
 
 unfoldable pub pushed_below : ℕ → Children → ℕ → Stack → Stack

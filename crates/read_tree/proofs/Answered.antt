@@ -1,26 +1,24 @@
 -- The answer: where the turns end, the answer is that of the reading, and the work buffer holds its rows.
 use Prim.Native.Nat.{ℕ, zero, suc, ◌+◌, ◌≤◌, ◌<◌}
 use native.Mathlib.Omega.{arith}
-use mathlib.Core.Path.{◌≡◌, refl, sym, ap, subst, ◌∙◌}
-use mathlib.Core.Bool.{cond}
+use mathlib.Core.Path.{◌≡◌, refl, sym, ap, subst}
 use mathlib.Core.List.{List, [], ◌∷◌}
-use lib.Dec.{ltb}
 use lib.ListN.{length, drop, length-drop}
-use borrow.Author.Tests.{eq-eqb, ne_eqb, lt-ltb, le-ltb}
+use borrow.Author.Tests.{lt-ltb, le-ltb}
+use Rattle.std.specs.Prelude.{Result, Ok, Err}
 use Rattle.spec_text.specs.Bytes.{Bytes, Part}
 use Rattle.spec_text.specs.Tree.{Tree}
 use Rattle.spec_text.specs.Lines.{Form, as_sort}
 use Rattle.spec_text.specs.Reading.{Rest, Read, got, refused, and_then, line, globals, stmts, stmt, deepest, Reading, tree, refusal, ended}
 use Rattle.read_names.specs.ChainsModel.{cleared}
 use Rattle.read_tree.specs.declared.Progress.{Progress}
-use Rattle.read_tree.specs.declared.Read.{Read as Answer}
-use Rattle.read_tree.specs.declared.Read.TheVariants as R
+use Rattle.read_line.specs.declared.Line.{Line}
+use Rattle.spec_text.specs.declared.refusal.Refused.{Refused}
 use Rattle.work_rows.specs.Rows.{rows_t}
-use Rattle.read_tree.specs.Laid.{skip, Holds, Answers}
+use Rattle.read_tree.specs.Laid.{Holds, Answers}
 use Rattle.read_agenda.specs.AgendaModel.{after}
-use Rattle.read_tree.specs.MachineModel.{Machine, machine, progress_to, Turns, first_machine, rest_at, answer_at}
+use Rattle.read_tree.specs.MachineModel.{First, Machine, machine, progress_to, reached, Turns, first_machine, rest_at, answer_at}
 use Rattle.read_agenda.specs.StackModel.{Stack, stack, pushed}
-use Rattle.read_agenda.proofs.FirstTest.{holds, fails}
 use Rattle.read_tree.proofs.Machine.{Ends, machine_reads}
 
 -- ---- a tree has as many globals as its first line counts
@@ -52,47 +50,42 @@ after_many g k r =
     gets_then (λ ss. Unit) (λ (t : Tree). Many g t.globals) (stmts (stmt deepest) k r) _ (anything (stmts (stmt deepest) k r)) (λ ss r u. h))
 
 -- ---- the answer where the turns end
-module _ (text : Bytes) (g : ℕ) (x : Machine) where
+module _ (text : Bytes) (g : ℕ) (v : List ℕ) where
   -- nothing is due: a tree, if no line is left
   abbrev over : Tree → ℕ → Bytes → Reading
   over t n bs = elim bs [ [] ↦ tree t | b ∷ bs ↦ refusal 4 n ]
 
-  over_answers : (t : Tree) → Many g t.globals → x.progress.rows ≡ length (rows_t t) → Holds text (rows_t t) x.work
-      → (bs : Bytes) → drop x.progress.at text ≡ bs
-      → Answers text (over t (x.progress.rows + 2) bs) x.work
-      (cond (ltb x.progress.at (length text)) (R.Refused 4 (x.progress.rows + 2)) (R.Tree g x.progress.rows))
-  over_answers t many rows held [] e =
-      let d : length text ≤ x.progress.at = omega (arith, length-drop x.progress.at text, ap length e) in
-      record { answer = sym (fails _ _ (le-ltb _ _ d) (rw (many, rows))); kept = held }
-  over_answers t many rows held (b ∷ bs) e =
-      let d : x.progress.at < length text = omega (arith, length-drop x.progress.at text, ap length e) in
-      record { answer = sym (holds _ _ (lt-ltb _ _ d) refl); kept = tt }
+  over_answers : (s : Progress) (t : Tree) → Many g t.globals → s.rows ≡ length (rows_t t) → Holds text (rows_t t) v
+      → (bs : Bytes) → drop s.at text ≡ bs → Answers text (over t (s.rows + 2) bs) v (answer_at text g (Ok s))
+  over_answers s t many rows held [] e =
+      let d : length text ≤ s.at = omega (arith, length-drop s.at text, ap length e) in
+      record { answer = rw (le-ltb _ _ d, many, rows); kept = held }
+  over_answers s t many rows held (b ∷ bs) e =
+      let d : s.at < length text = omega (arith, length-drop s.at text, ap length e) in
+      record { answer = rw (lt-ltb _ _ d); kept = tt }
 
-  ends_answer : {y : Read Tree} → Gets (λ (t : Tree). Many g t.globals) y → Ends text x y → Answers text (ended y) x.work (answer_at text g x.progress)
-  ends_answer many (Ends.tree t r none here rows held) =
-      let a = x.progress.at in
-      let w = over_answers t many rows held (drop a text) refl in
-      subst (λ (q : Rest). Answers text (ended (got t q)) x.work (answer_at text g x.progress)) (sym here)
-      (record { answer = sym (holds _ _ (eq-eqb x.progress.refusal 0 none) (sym w.answer)); kept = w.kept })
-  ends_answer many (Ends.refusal k n some is line) =
-      record { answer = sym (fails _ _ (ne_eqb x.progress.refusal 0 (λ z. some (sym is ∙ z))) (rw (is, line))); kept = tt }
+  ends_answer : (r : Result Progress Refused) {y : Read Tree} → Gets (λ (t : Tree). Many g t.globals) y → Ends text (reached v r) y → Answers text (ended y) v (answer_at text g r)
+  ends_answer (Ok s) many (Ends.tree x t r here rows held) =
+      subst (λ (q : Rest). Answers text (ended (got t q)) v (answer_at text g (Ok s))) (sym here)
+      (over_answers s t many rows held (drop s.at text) refl)
+  ends_answer (Err e) many (Ends.refusal d) = record { answer = refl; kept = tt }
 
 -- ---- the agenda is laid out from the first line's counts, and turns lead to their end
-pub rest_answers : (text : Bytes) (g k at : ℕ) (w w₁ w₂ w₃ : List ℕ) (t₂ t₃ : ℕ) → length text ≤ 65_536 → 16_384 ≤ length w → g ≤ 4_096 → k ≤ 4_096
-    → skip 1 0 text ≡ at
+pub rest_answers : {text : Bytes} {l : Line} {g k : ℕ} (w : List ℕ) {w₁ w₂ w₃ : List ℕ} {t₂ t₃ : ℕ} → length text ≤ 65_536 → 16_384 ≤ length w → First text l
+    → g ≡ l.count0
+    → k ≡ l.count1
     → w₁ ≡ cleared w
     → stack w₂ t₂ ≡ pushed 5 k deepest (stack w₁ 0)
     → stack w₃ t₃ ≡ pushed 1 g deepest (stack w₂ t₂)
-    → (v : List ℕ) (s : Progress)
-    → ((x : Machine) → Turns text (machine w₃ (progress_to at 0 t₃ 0)) x → machine v s ≡ x)
-    → (r : Answer) → r ≡ answer_at text g s
-    → Answers text (ended (after g k (rest_at text at 2))) v r
+    → (v : List ℕ) (r : Result Progress Refused)
+    → ((x : Result Machine Refused) → Turns text (machine w₃ (progress_to l.next 0 t₃)) x → reached v r ≡ x)
+    → Answers text (ended (after l.count0 l.count1 (rest_at text l.next 2))) v (answer_at text g r)
 unfolding first_machine
-rest_answers text g k at w w₁ w₂ w₃ t₂ t₃ short room a b skips clear e₂ e₃ v s turns r is =
-    let reads = machine_reads text w g k at short room a b skips in
+rest_answers {text} {l} {g} {k} w {w₁} {w₂} {w₃} {t₂} {t₃} short room f globals stmts clear e₂ e₃ v r turns =
+    let at = l.next in
+    let reads = machine_reads text w g k at short room (omega (arith, f.globals)) (omega (arith, f.stmts)) f.start in
     let top : stack w₃ t₃ ≡ pushed 1 g deepest (pushed 5 k deepest (stack (cleared w) 0)) = rw (e₃, e₂, clear) in
-    let m : machine w₃ (progress_to at 0 t₃ 0) ≡ first_machine g k at w = ap (λ (x : Stack). machine x.work (progress_to at 0 x.top 0)) top in
-    let last : machine v s ≡ reads.last = turns reads.last (subst (λ (n : Machine). Turns text n reads.last) (sym m) reads.turns) in
-    let y = ends_answer text g reads.last (after_many g k (rest_at text at 2)) reads.ends in
-    let z = subst (λ (n : Machine). Answers text (ended (after g k (rest_at text at 2))) n.work (answer_at text g n.progress)) (sym last) y in
-    record { answer = is ∙ z.answer; kept = z.kept }
+    let m : machine w₃ (progress_to at 0 t₃) ≡ first_machine g k at w = ap (λ (x : Stack). machine x.work (progress_to at 0 x.top)) top in
+    let last : reached v r ≡ reads.last = turns reads.last (subst (λ (n : Machine). Turns text n reads.last) (sym m) reads.turns) in
+    rw (sym globals, sym stmts) (ends_answer text g v r (after_many g k (rest_at text at 2))
+    (subst (λ (x : Result Machine Refused). Ends text x (after g k (rest_at text at 2))) (sym last) reads.ends))

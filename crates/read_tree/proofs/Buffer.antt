@@ -151,7 +151,6 @@ module _ {text : Bytes} {rows : List Row} where
 
   close_held : {under : List Entry} {x : Stack} (i : ℕ) → i < length rows → length under ≤ 514 → Held text rows under x
       → Held text rows (close i ∷ under) (pushed_close i x)
-  unfolding pushed_close
   close_held i l b h = put_held (close_word i) refl (fits_close l b) h
 
   -- one line of the entry on top is taken

@@ -6,17 +6,20 @@ use mathlib.Core.Path.{◌≡◌, refl, sym, ap, ◌∙◌, subst}
 use mathlib.Core.Bool.{Bool, true, false}
 use mathlib.Core.List.{List, [], ◌∷◌, ◌++◌}
 use lib.ListN.{length, get_or}
+use Rattle.std.specs.Prelude.{Ok, Err}
 use borrow.Author.Tests.{eq-eqb, ne_eqb, eqb-true}
 use Rattle.spec_text.specs.Bytes.{Bytes}
 use Rattle.spec_text.specs.Tree.{Line}
 use Rattle.spec_text.specs.Lines.{Form, Parsed, count_at}
 use Rattle.spec_text.specs.Reading.{Rest, Read, got, refused, Due, too_deep, line}
-use Rattle.read_line.specs.LineModel.{line_at, numbers_of}
+use Rattle.spec_text.specs.Numbers.{refusal_number}
+use Rattle.spec_text.specs.declared.refusal.Refused.{Refused}
+use Rattle.read_line.specs.LineModel.{numbers_of}
 use Rattle.work_rows.specs.Rows.{Row, row}
 use Rattle.read_tree.specs.Laid.{start_of}
 use Rattle.read_agenda.specs.AgendaModel.{Entry, run, close, due, due_below, State, Phase, on, stopped, close_at, of_sort, line_due, line_opened, turned, turn}
 use Rattle.read_words.specs.ChildrenModel.{children_in, children_by, Few}
-use Rattle.read_tree.specs.MachineModel.{Machine, machine, progress_to, entry_of, turn_by, turn_of, taken, taken_if, onward, below, due_at, rest_at, row_closed, row_written}
+use Rattle.read_tree.specs.MachineModel.{Machine, machine, progress_to, entry_of, turn_by, turn_of, taken, taken_if, due_at, rest_at, row_closed, row_written}
 use Rattle.read_agenda.specs.StackModel.{Stack, stack, run_word, close_word, lessened, is_leaf, pushed_due}
 use Rattle.read_words.specs.declared.Children.{Children}
 use Rattle.read_agenda.proofs.Via.{at as state}
@@ -28,7 +31,6 @@ use Rattle.read_tree.proofs.Written.{length_more, row_held, close_length, closed
 
 -- ---- the machine stands where a state of the agenda stands
 pub record Sim (text : Bytes) (m : Machine) (a : State) : Type 0 where
-  pub fine : m.progress.refusal ≡ 0
   pub rows : m.progress.rows ≡ length a.rows
   pub rest : a.rest ≡ rest_at text m.progress.at (m.progress.rows + 2)
   pub start : m.progress.at ≡ start_of text m.progress.rows
@@ -38,10 +40,9 @@ pub record Sim (text : Bytes) (m : Machine) (a : State) : Type 0 where
 -- has nothing below it; or it ends, with the refusal
 pub data Follows (text : Bytes) (m : Machine) : Phase → Type 0 where
   idle : {a : State} → m.progress.top ≡ 0 → Sim text m a → Follows text m (on a)
-  goes : {a : State} → 0 < m.progress.top → Sim text (turn_of text m) a → Follows text m (on a)
-  skips : {a b : State} → 0 < m.progress.top → (a.agenda ≡ [] → ⊥) → turn a ≡ on b → Sim text (turn_of text m) b → Follows text m (on a)
-  ends : {k n : ℕ} → 0 < m.progress.top → (k ≡ 0 → ⊥) → (turn_of text m).progress.top ≡ 0 → (turn_of text m).progress.refusal ≡ k
-      → (turn_of text m).progress.rows + 2 ≡ n → Follows text m (stopped k n)
+  goes : {a : State} {n : Machine} → 0 < m.progress.top → turn_of text m ≡ Ok n → Sim text n a → Follows text m (on a)
+  skips : {a b : State} {n : Machine} → 0 < m.progress.top → (a.agenda ≡ [] → ⊥) → turn a ≡ on b → turn_of text m ≡ Ok n → Sim text n b → Follows text m (on a)
+  ends : {e : Refused} → 0 < m.progress.top → turn_of text m ≡ Err e → Follows text m (stopped (refusal_number e.why) e.line)
 
 -- ---- a line with nothing due below it
 due_none : (s n d : ℕ) (more : List Entry) → n ≡ 0 → due s n d more ≡ more
@@ -71,7 +72,7 @@ levels_left s (suc d) r e = (omega arith, omega arith)
 
 module _ (text : Bytes) (short : length text ≤ 65_536) (w : List ℕ) (at top : ℕ) (rows : List Row) (start : at ≡ start_of text (length rows)) where
   abbrev now : Machine
-  now = machine w (progress_to at (length rows) top 0)
+  now = machine w (progress_to at (length rows) top)
 
   abbrev Turns-to : List Entry → Type 0
   Turns-to agenda = Follows text now (turned agenda (rest_at text at (length rows + 2)) rows)
@@ -81,21 +82,21 @@ module _ (text : Bytes) (short : length text ≤ 65_536) (w : List ℕ) (at top 
 
   -- nothing is due
   turn_none : Held text rows [] (stack w top) → Turns-to []
-  turn_none h = idle h.top (record { fine = refl; rows = refl; rest = refl; start = start; held = h })
+  turn_none h = idle h.top (record { rows = refl; rest = refl; start = start; held = h })
 
   -- a row is closed
-  close_turns : (i : ℕ) → entry_of now ≡ close_word i → turn_of text now ≡ machine (row_closed i (length rows) w) (progress_to at (length rows) (top - 1) 0)
+  close_turns : (i : ℕ) → entry_of now ≡ close_word i → turn_of text now ≡ Ok (machine (row_closed i (length rows) w) (progress_to at (length rows) (top - 1)))
   unfolding turn_of
   close_turns i e =
       ap (λ z. turn_by text z now) e
       ∙ (rw (eq-eqb (close_word i % 8) 7 (omega arith))
-      (ap (λ j. machine (row_closed j (length rows) w) (progress_to at (length rows) (top - 1) 0)) (omega arith)))
+      (ap (λ j. Ok (machine (row_closed j (length rows) w) (progress_to at (length rows) (top - 1)))) (omega arith)))
 
   turn_close : (i : ℕ) (under : List Entry) → Held text rows (close i ∷ under) (stack w top) → Turns-to (close i ∷ under)
   turn_close i under h =
       let l : i < length rows = fits_row (fits_on h.entries) in
-      goes (omega (arith, h.top)) (subst (λ m. Sim text m (state under (rest_at text at (length rows + 2)) (close_at i rows))) (sym (close_turns i (entry h)))
-      (record { fine = refl; rows = sym (close_length i rows); rest = refl; start = start; held = closed_held i l (pop_held h) }))
+      goes (omega (arith, h.top)) (close_turns i (entry h))
+      (record { rows = sym (close_length i rows); rest = refl; start = start; held = closed_held i l (pop_held h) })
 
   -- ---- a line is taken
   module _ (s n d : ℕ) (under : List Entry) (h : Held text rows (run s (suc n) d ∷ under) (stack w top)) where
@@ -113,20 +114,14 @@ module _ (text : Bytes) (short : length text ≤ 65_536) (w : List ℕ) (at top 
         ∙ (rw (ne_eqb (e % 8) 7 (λ k. omega (arith, q.sort)), i, j))
 
     -- it is refused
-    refused_turns : ((due_at text at s (length rows + 2) d).refusal ≡ 0 → ⊥)
-        → turn_of text now ≡ machine w (progress_to at (length rows) 0 (due_at text at s (length rows + 2) d).refusal)
-    refused_turns some = run_turns ∙ rw (ne_eqb (due_at text at s (length rows + 2) d).refusal 0 some)
-
-    turn_refused : (k : ℕ) → (k ≡ 0 → ⊥) → (due_at text at s (length rows + 2) d).refusal ≡ k
-        → line_due s d (rest_at text at (length rows + 2)) ≡ refused k (length rows + 2) → Turns-to (run s (suc n) d ∷ under)
-    turn_refused k some r l =
-        let m = refused_turns (λ q. some (sym r ∙ q)) in
+    turn_refused : (r : Refused) → due_at text at s (length rows + 2) d ≡ Err r
+        → line_due s d (rest_at text at (length rows + 2)) ≡ refused (refusal_number r.why) r.line → Turns-to (run s (suc n) d ∷ under)
+    turn_refused r q l =
         subst (λ y. Follows text now (line_opened y (pred d) (due s n d under) rows)) (sym l)
-        (ends {n = length rows + 2} (omega (arith, h.top)) some
-        (ap (λ z. z.progress.top) m) (ap (λ z. z.progress.refusal) m ∙ r) (ap (λ z. z.progress.rows + 2) m))
+        (ends (omega (arith, h.top)) (run_turns ∙ ap (λ z. taken_if text e d z now) q))
 
     -- it is read
-    module _ (f : Form) (p : Parsed) (next : ℕ) (r : (due_at text at s (length rows + 2) d).refusal ≡ 0) (parsed : line_at text at ≡ numbers_of p next)
+    module _ (f : Form) (p : Parsed) (next : ℕ) (r : due_at text at s (length rows + 2) d ≡ Ok (numbers_of p next))
         (few : length rows + 2 ≤ 4_097) (known : Known text at p next) where
       abbrev kids : Children
       kids = children_by p.line.word (count_at 0 p) (count_at 1 p) (count_at 2 p)
@@ -137,11 +132,8 @@ module _ (text : Bytes) (short : length text ≤ 65_536) (w : List ℕ) (at top 
       abbrev after : Stack
       after = pushed_due (length rows) kids (d - 1) (lessened e written)
 
-      read_turns : turn_of text now ≡ machine after.work (progress_to next (length rows + 1) after.top 0)
-      unfolding due_at
-      read_turns =
-          run_turns
-          ∙ (rw (eq-eqb (due_at text at s (length rows + 2) d).refusal 0 r) (ap (λ z. onward now.progress z (below text e d z now)) parsed))
+      read_turns : turn_of text now ≡ Ok (machine after.work (progress_to next (length rows + 1) after.top))
+      read_turns = run_turns ∙ ap (λ z. taken_if text e d z now) r
 
       abbrev more : List Row
       more = rows ++ (row p.line 0 ∷ [])
@@ -157,23 +149,21 @@ module _ (text : Bytes) (short : length text ≤ 65_536) (w : List ℕ) (at top 
       then k = state (due_below (children_in p) k (close (length rows) ∷ due s n d under)) (rest_at text next (suc (length rows + 2))) more
 
       read_sim : (agenda : List Entry) → Held text more agenda after
-          → Sim text (turn_of text now) (state agenda (rest_at text next (suc (length rows + 2))) more)
+          → Sim text (machine after.work (progress_to next (length rows + 1) after.top)) (state agenda (rest_at text next (suc (length rows + 2))) more)
       read_sim agenda held =
-          subst (λ m. Sim text m (state agenda (rest_at text next (suc (length rows + 2))) more)) (sym read_turns)
-          (record {
-            fine = refl;
+          record {
             rows = omega (arith, length_more rows (row p.line 0));
             rest = ap (λ k. rest_at text next k) (omega arith);
             start = sym known.start ∙ (sym (skip_next (suc (length rows)) text at start) ∙ ap (λ k. start_of text k) (sym (add-one (length rows))));
             held = held;
-          })
+          }
 
       -- lines are due below it
       read_on : 0 < d → is_leaf kids ≡ false → Follows text now (on (then (d - 1)))
       unfolding pushed_due
       read_on some b =
           let q = fits_due (fits_on h.entries) in
-          goes (omega (arith, h.top)) (read_sim _
+          goes (omega (arith, h.top)) read_turns (read_sim _
           (subst (λ c. Held text more (due_below c (d - 1) (close (length rows) ∷ due s n d under)) after) known.children
           (rw b (below_held (length rows) kids (d - 1) kids_few (omega (arith, length_more rows (row p.line 0)))
           (omega (arith, due_low s n d (length under) under (omega arith), q.short)) less_held))))
@@ -188,7 +178,7 @@ module _ (text : Bytes) (short : length text ≤ 65_536) (w : List ℕ) (at top 
           let closed : turn (then (d - 1)) ≡ on (state (due s n d under) (rest_at text next (suc (length rows + 2))) more) =
           ap (λ z. turned z (rest_at text next (suc (length rows + 2))) more) none
           ∙ ap (λ z. on (state (due s n d under) (rest_at text next (suc (length rows + 2))) z)) (close_last rows p.line) in
-          skips (omega (arith, h.top)) (λ z. omega (arith, ap length (sym none ∙ z))) closed (read_sim _ (rw b less_held))
+          skips (omega (arith, h.top)) (λ z. omega (arith, ap length (sym none ∙ z))) closed read_turns (read_sim _ (rw b less_held))
 
       read_follows : 0 < d → Follows text now (on (then (d - 1)))
       read_follows some = go (is_leaf kids) refl
@@ -208,8 +198,8 @@ module _ (text : Bytes) (short : length text ≤ 65_536) (w : List ℕ) (at top 
     turn_run = go (same text at s (length rows + 2) d)
       where
         go : Same text at s (length rows + 2) d → Turns-to (run s (suc n) d ∷ under)
-        go (read f p next r parsed few l known) = turn_read f p next r parsed few known l
-        go (refuse k some r l) = turn_refused k some r l
+        go (read f p next r few l known) = turn_read f p next r few known l
+        go (refuse r due l) = turn_refused r due l
 
   turn_any : (agenda : List Entry) → Held text rows agenda (stack w top) → Turns-to agenda
   turn_any [] h = turn_none h
@@ -225,6 +215,5 @@ turn_follows text short m a h =
     let agenda = a.agenda in
     let rows = a.rows in
     subst (λ r. Follows text m (turned agenda r rows)) (sym h.rest)
-    (subst (λ k. Follows text (machine m.work (progress_to at k top m.progress.refusal)) (turned agenda (rest_at text at (k + 2)) rows)) (sym h.rows)
-    (subst (λ z. Follows text (machine m.work (progress_to at (length rows) top z)) (turned agenda (rest_at text at (length rows + 2)) rows)) (sym h.fine)
-    (turn_any text short m.work at top rows (h.start ∙ ap (λ k. start_of text k) h.rows) agenda h.held)))
+    (subst (λ k. Follows text (machine m.work (progress_to at k top)) (turned agenda (rest_at text at (k + 2)) rows)) (sym h.rows)
+    (turn_any text short m.work at top rows (h.start ∙ ap (λ k. start_of text k) h.rows) agenda h.held))

@@ -1,6 +1,7 @@
 -- The proofs about the reader. Theorems has what follows from its contract. Machine has the theorem about the machine, whose
 -- agenda is in the work buffer: it ends where the definition ends.
 pub mod Theorems
+pub mod SortNumbers
 pub mod Machine
 pub mod CutText
 pub mod ParsedFacts

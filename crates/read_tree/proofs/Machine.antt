@@ -5,36 +5,39 @@ use native.Mathlib.Omega.{arith}
 use mathlib.Core.Path.{◌≡◌, refl, sym, ap, ◌∙◌, subst}
 use mathlib.Core.List.{List, []}
 use lib.ListN.{length}
+use Rattle.std.specs.Prelude.{Result, Ok, Err}
 use Rattle.spec_text.specs.Bytes.{Bytes}
 use Rattle.spec_text.specs.Tree.{Tree}
 use Rattle.spec_text.specs.Reading.{Rest, Read, got, refused, deepest}
 use Rattle.spec_text.proofs.Lists.{all_nil}
+use Rattle.spec_text.specs.Numbers.{refusal_number}
+use Rattle.spec_text.specs.declared.refusal.Refused.{Refused}
 use Rattle.read_names.specs.ChainsModel.{cleared}
 use Rattle.read_names.proofs.Theorems.{cleared_names}
 use Rattle.work_rows.specs.Rows.{rows_t}
 use Rattle.read_tree.specs.Laid.{skip, Holds}
 use Rattle.read_agenda.specs.AgendaModel.{State, Phase, on, stopped, turn, Via, here, step, stop, first, Leads, after}
-use Rattle.read_tree.specs.MachineModel.{Machine, Turns, done, more, turn_of, first_machine, rest_at}
+use Rattle.read_tree.specs.MachineModel.{Machine, Turns, done, more, out, turn_of, first_machine, rest_at}
 use Rattle.read_agenda.specs.StackModel.{stack}
 use Rattle.read_agenda.proofs.Agenda.{agenda_reads}
 use Rattle.read_tree.proofs.Buffer.{Held, bare, due_low, pushed_held}
 use Rattle.read_tree.proofs.Follows.{Sim, Follows, idle, goes, skips, ends, turn_follows}
 
 -- ---- where the machine ends: with the rows of the tree in the work buffer, or with the refusal
-pub data Ends (text : Bytes) (x : Machine) : Read Tree → Type 0 where
-  tree : (t : Tree) (r : Rest) → x.progress.refusal ≡ 0 → r ≡ rest_at text x.progress.at (x.progress.rows + 2)
-      → x.progress.rows ≡ length (rows_t t) → Holds text (rows_t t) x.work → Ends text x (got t r)
-  refusal : (k n : ℕ) → (k ≡ 0 → ⊥) → x.progress.refusal ≡ k → x.progress.rows + 2 ≡ n → Ends text x (refused k n)
+pub data Ends (text : Bytes) : Result Machine Refused → Read Tree → Type 0 where
+  tree : (x : Machine) (t : Tree) (r : Rest) → r ≡ rest_at text x.progress.at (x.progress.rows + 2)
+      → x.progress.rows ≡ length (rows_t t) → Holds text (rows_t t) x.work → Ends text (Ok x) (got t r)
+  refusal : (e : Refused) → Ends text (Err e) (refused (refusal_number e.why) e.line)
 
 pub record Reads (text : Bytes) (m : Machine) (y : Read Tree) : Type 0 where
-  pub last : Machine
+  pub last : Result Machine Refused
   pub turns : Turns text m last
   pub ends : Ends text last y
 
 -- ---- the machine's turns along the agenda's
 data Ended (text : Bytes) (m : Machine) : Phase → Type 0 where
-  ended_on : {a : State} (x : Machine) → Turns text m x → Sim text x a → Ended text m (on a)
-  ended_out : {k n : ℕ} (x : Machine) → Turns text m x → (k ≡ 0 → ⊥) → x.progress.refusal ≡ k → x.progress.rows + 2 ≡ n → Ended text m (stopped k n)
+  ended_on : {a : State} (x : Machine) → Turns text m (Ok x) → Sim text x a → Ended text m (on a)
+  ended_out : (e : Refused) → Turns text m (Err e) → Ended text m (stopped (refusal_number e.why) e.line)
 
 -- nothing is due
 abbrev Final : Phase → Type 0
@@ -48,12 +51,15 @@ never : {a : State} {k n : ℕ} → on a ≡ stopped k n → ⊥
 never e = let z : ◌≡◌ {A = ℕ} 0 1 = cc in omega arith
 
 module _ (text : Bytes) (short : length text ≤ 65_536) where
-  later : {m : Machine} {p : Phase} → 0 < m.progress.top → Ended text (turn_of text m) p → Ended text m p
-  later l (ended_on x t s) = ended_on x (more l t) s
-  later l (ended_out x t some r n) = ended_out x (more l t) some r n
+  later : {m n : Machine} {p : Phase} → 0 < m.progress.top → turn_of text m ≡ Ok n → Ended text n p → Ended text m p
+  later l q (ended_on x t s) = ended_on x (more l q t) s
+  later l q (ended_out e t) = ended_out e (more l q t)
 
   stopped_out : {m : Machine} {k n : ℕ} → Follows text m (stopped k n) → Ended text m (stopped k n)
-  stopped_out {m} (ends l some t r n) = ended_out (turn_of text m) (more l (done t)) some r n
+  stopped_out (ends {e} l q) = ended_out e (out l q)
+
+  stopped_reads : {m : Machine} {k n : ℕ} → Ended text m (stopped k n) → Reads text m (refused k n)
+  stopped_reads (ended_out e turns) = record { last = Err e; turns = turns; ends = refusal e }
 
   -- from a state, and from the one after it
   record Way (s : State) (p : Phase) : Type 0 where
@@ -62,8 +68,8 @@ module _ (text : Bytes) (short : length text ≤ 65_536) where
 
   stepped : {s : State} {p : Phase} (m : Machine) → Way s p → Follows text m (on s) → Ended text m p
   stepped m w (idle e s) = w.from m s
-  stepped m w (goes l s) = later l (w.from (turn_of text m) s)
-  stepped m w (skips {b} l some q s) = later l (w.past (turn_of text m) b some q s)
+  stepped m w (goes {n} l t s) = later l t (w.from n s)
+  stepped m w (skips {b} {n} l some q t s) = later l t (w.past n b some q s)
 
   ended : {s : State} {p : Phase} → Final p → Via s p → Way s p
   ended none here = record { from = λ m h. ended_on m (done (h.held.top ∙ ap length none)) h; past = λ m b some q h. absurd (some none) }
@@ -83,11 +89,8 @@ module _ (text : Bytes) (short : length text ≤ 65_536) where
   leads_read m h (got t r) v = go ((ended refl v).from m h)
     where
       go : Ended text m (on (record { agenda = []; rest = r; rows = rows_t t })) → Reads text m (got t r)
-      go (ended_on x turns s) = record { last = x; turns = turns; ends = tree t r s.fine s.rest s.rows s.held.holds }
-  leads_read m h (refused k n) v = go ((ended tt v).from m h)
-    where
-      go : Ended text m (stopped k n) → Reads text m (refused k n)
-      go (ended_out x turns some r i) = record { last = x; turns = turns; ends = refusal k n some r i }
+      go (ended_on x turns s) = record { last = Ok x; turns = turns; ends = tree x t r s.rest s.rows s.held.holds }
+  leads_read m h (refused k n) v = stopped_reads ((ended tt v).from m h)
 
 -- ---- the start: no row, and on the agenda what the first line has due
 none_held : (text : Bytes) (w : List ℕ) → 16_384 ≤ length w → Held text [] [] (stack (cleared w) 0)
@@ -105,7 +108,6 @@ unfolding first_machine
 start_sim text w g k at room lg lk e =
     let stmts = pushed_held 5 k deepest (omega arith) (omega arith) (omega arith) (none_held text w room) in
     record {
-      fine = refl;
       rows = refl;
       rest = refl;
       start = sym e;

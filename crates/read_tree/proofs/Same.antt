@@ -3,23 +3,29 @@
 use Prim.Native.Nat.{ℕ, zero, suc, ◌≤◌, ◌<◌}
 use native.Mathlib.Omega.{arith}
 use mathlib.Core.Path.{◌≡◌, refl, ap, sym, ◌∙◌, subst}
-use mathlib.Core.Bool.{Bool, true, false, cond, not, ◌&&◌}
-use mathlib.Core.List.{[], ◌∷◌}
+use mathlib.Core.Bool.{Bool, true, false, cond, not, ◌&&◌, ◌||◌}
+use mathlib.Core.List.{List, [], ◌∷◌}
 use mathlib.Core.Option.{Option, none, some}
+use Rattle.std.specs.Prelude.{None, Some, Result, Ok, Err}
 use lib.Dec.{eqb, leb, ltb, eqb-suc-zero}
 use lib.ListN.{length, drop, length-drop}
 use borrow.Author.Tests.{leb-true, leb-false, le-leb, lt-leb, le-ltb, lt-ltb}
 use Rattle.spec_text.specs.Bytes.{Bytes, part_of}
 use Rattle.spec_text.specs.Lines.{Form, Cut, cut, Parsed, parse, count_at, sort_of}
 use Rattle.spec_text.specs.Reading.{Rest, Read, got, refused, Due, line, formed, too_deep}
+use Rattle.spec_text.specs.Numbers.{refusal_number, sort_number}
+use Rattle.spec_text.specs.declared.refusal.Refusal.TheVariants.{LineMissing, Malformed, NotDue, OverLimit}
+use Rattle.spec_text.specs.declared.refusal.Refused.{Refused}
+use Rattle.spec_text.specs.Tree.{Line as TextLine}
 use Rattle.spec_text.proofs.Lists.{eqb_sym}
 use Rattle.spec_text.proofs.LineParts.{cut_in}
 use Rattle.read_fields.specs.FieldsModel.{field_at}
-use Rattle.read_line.specs.LineModel.{line_at, cut_line, numbers_of, no_line}
+use Rattle.read_line.specs.LineModel.{line_at, cut_line, numbers_of}
+use Rattle.read_line.specs.declared.Line.{Line}
 use Rattle.read_tree.specs.Laid.{skip}
 use Rattle.read_agenda.specs.AgendaModel.{line_due, of_sort}
 use Rattle.read_words.specs.ChildrenModel.{children_of, children_in, children_by}
-use Rattle.read_tree.specs.MachineModel.{refusal_of, due_at, rest_at}
+use Rattle.read_tree.specs.MachineModel.{refused_for, due_at, rest_at}
 use Rattle.read_tree.proofs.CutText.{FieldIn, field_inside, cut_fields, cut_skips, skip_onward}
 use Rattle.read_tree.proofs.ParsedFacts.{ParsedFacts, parsed_facts}
 
@@ -37,11 +43,20 @@ pub record Known (text : Bytes) (at : ℕ) (p : Parsed) (next : ℕ) : Type 0 wh
 
 -- the line that is due is the same for the code's tests and for the definition's
 pub data Same (text : Bytes) (at s n d : ℕ) : Type 0 where
-  read : (f : Form) (p : Parsed) (next : ℕ) → (due_at text at s n d).refusal ≡ 0 → line_at text at ≡ numbers_of p next → n ≤ 4_097
+  read : (f : Form) (p : Parsed) (next : ℕ) → due_at text at s n d ≡ Ok (numbers_of p next) → n ≤ 4_097
       → line_due s d (rest_at text at n) ≡ got (record { is = f; parsed = p }) (rest_at text next (suc n)) → Known text at p next → Same text at s n d
-  refuse : (k : ℕ) → (k ≡ 0 → ⊥) → (due_at text at s n d).refusal ≡ k → line_due s d (rest_at text at n) ≡ refused k n → Same text at s n d
+  refuse : (e : Refused) → due_at text at s n d ≡ Err e → line_due s d (rest_at text at n) ≡ refused (refusal_number e.why) e.line → Same text at s n d
 
 -- ---- the code's tests, in the definition's words
+sort_is : (f : Form) (l : TextLine) (counts : List ℕ) (next : ℕ) → sort_number (numbers_of (record { form = f; line = l; counts = counts }) next).sort ≡ sort_of f
+sort_is Form.tree l counts next = refl
+sort_is Form.global l counts next = refl
+sort_is Form.elif l counts next = refl
+sort_is Form.method l counts next = refl
+sort_is Form.attr l counts next = refl
+sort_is (Form.stmt f) l counts next = refl
+sort_is (Form.expr f) l counts next = refl
+
 ltb_not : (a b : ℕ) → ltb a b ≡ not (leb b a)
 ltb_not a b = go (leb b a) refl
   where
@@ -88,8 +103,8 @@ module _ (text : Bytes) (at : ℕ) where
     any_depth (suc d) e = e
 
     -- 6 and 7, by the outcome of the tests: of sort s; few enough lines; few enough parameters
-    abbrev code_by : Bool → Bool → Bool → ℕ → ℕ
-    code_by x y z d = cond (not x) 6 (cond (not y) 7 (cond (not z) 7 (cond (eqb d 0) 7 0)))
+    abbrev code_by : Bool → Bool → Bool → Line → ℕ → Result Line Refused
+    code_by x y z l d = cond (not x) (refused_for NotDue n) (cond (not y || (not z || eqb d 0)) (refused_for OverLimit n) (Ok l))
 
     abbrev line_by : Bool → Bool → Bool → Parsed → Bytes → ℕ → Read (Due Form)
     line_by x y z p bs next =
@@ -98,13 +113,13 @@ module _ (text : Bytes) (at : ℕ) where
           | none ↦ refused 6 n
         ]
 
-    by_tests : (p : Parsed) (next : ℕ) → line_at text at ≡ numbers_of p next → Known text at p next → (x y z : Bool) (d : ℕ) → leb n 4_097 ≡ y
-        → (due_at text at s n d).refusal ≡ code_by x y z d → line (of_sort s) r ≡ line_by x y z p (drop next text) next → Same text at s n d
-    by_tests p next l k false y z d h e f = refuse 6 (λ i. omega arith) e (any_depth d f)
-    by_tests p next l k true false z d h e f = refuse 7 (λ i. omega arith) e (any_depth d f)
-    by_tests p next l k true true false d h e f = refuse 7 (λ i. omega arith) e (any_depth d f)
-    by_tests p next l k true true true zero h e f = refuse 7 (λ i. omega arith) e (ap (too_deep n) f)
-    by_tests p next l k true true true (suc d) h e f = read p.form p next (rw (eqb-suc-zero d) at e) l (leb-true n 4_097 h) f k
+    by_tests : (p : Parsed) (next : ℕ) → Known text at p next → (x y z : Bool) (d : ℕ) → leb n 4_097 ≡ y
+        → due_at text at s n d ≡ code_by x y z (numbers_of p next) d → line (of_sort s) r ≡ line_by x y z p (drop next text) next → Same text at s n d
+    by_tests p next k false y z d h e f = refuse (record { why = NotDue; line = n }) e (any_depth d f)
+    by_tests p next k true false z d h e f = refuse (record { why = OverLimit; line = n }) e (any_depth d f)
+    by_tests p next k true true false d h e f = refuse (record { why = OverLimit; line = n }) e (any_depth d f)
+    by_tests p next k true true true zero h e f = refuse (record { why = OverLimit; line = n }) e (ap (too_deep n) f)
+    by_tests p next k true true true (suc d) h e f = read p.form p next (rw (eqb-suc-zero d) at e) (leb-true n 4_097 h) f k
 
     -- 5: no line end, or not well formed
     module _ (d b : ℕ) (bs : Bytes) (e : drop at text ≡ b ∷ bs) where
@@ -114,30 +129,30 @@ module _ (text : Bytes) (at : ℕ) where
       formed_line : line (of_sort s) r ≡ formed (of_sort s) n c
       formed_line = rw e
 
-      not_formed : line_at text at ≡ no_line → formed (of_sort s) n c ≡ refused 5 n → Same text at s n d
-      unfolding due_at refusal_of
-      not_formed l f = refuse 5 (λ i. omega arith) (rw (more, l)) (any_depth d (formed_line ∙ f))
+      not_formed : line_at text at ≡ None → formed (of_sort s) n c ≡ refused 5 n → Same text at s n d
+      unfolding due_at
+      not_formed l f = refuse (record { why = Malformed; line = n }) (rw (more, l)) (any_depth d (formed_line ∙ f))
 
       by_parse : (t : Bool) (o : Option Parsed) → c.ended ≡ t → parse c.fields ≡ o → Same text at s n d
-      unfolding line_at due_at refusal_of
+      unfolding line_at due_at
       by_parse false o h q = not_formed (rw (h, cut_line)) (rw (h, formed))
       by_parse true none h q = not_formed (rw (h, cut_line) (rw q)) (rw (h, formed) (rw q))
       by_parse true (some p) h q =
-          let l : line_at text at ≡ numbers_of p c.next = rw (h, cut_line) (rw q) in
+          let l : line_at text at ≡ Some (numbers_of p c.next) = rw (h, cut_line) (rw q) in
           let rest : drop c.next text ≡ c.rest = (cut_in text (drop at text) at refl (omega (arith, within b bs e))).rest in
           let x : Bool = eqb s (sort_of p.form) in
           let y : Bool = leb n 4_097 in
           let z : Bool = leb (length p.line.params) 16 in
-          by_tests p c.next l (known b bs e p q) x y z d refl
-          (rw (more, l, eqb_sym (sort_of p.form) s, ltb_not 4_097 n, ltb_not 16 (length p.line.params)))
+          by_tests p c.next (known b bs e p q) x y z d refl
+          (rw (more, l, sort_is p.form p.line p.counts c.next, eqb_sym (sort_of p.form) s, ltb_not 4_097 n, ltb_not 16 (length p.line.params)))
           (subst (λ (bs : Bytes). line (of_sort s) r ≡ line_by x y z p bs c.next) (sym rest) (formed_line ∙ rw (h, formed) (rw q)))
 
 pub same : (text : Bytes) (at s n d : ℕ) → Same text at s n d
-unfolding due_at refusal_of
+unfolding due_at
 same text at s n d = go (drop at text) refl
   where
     go : (bs : Bytes) → drop at text ≡ bs → Same text at s n d
     go [] e =
         let l : length text ≤ at = omega (arith, length-drop at text, ap length e) in
-        refuse 3 (λ i. omega arith) (rw (le-leb (length text) at l)) (any_depth text at s n d (rw e))
+        refuse (record { why = LineMissing; line = n }) (rw (le-leb (length text) at l)) (any_depth text at s n d (rw e))
     go (b ∷ bs) e = let c = cut at (drop at text) in by_parse text at s n d b bs e c.ended (parse c.fields) refl refl

@@ -1,13 +1,14 @@
 -- The reader's answer, and what the work buffer holds when the text is a tree: its rows, where each line or its name starts, and a
 -- number for each name. The layout is crate `work_rows`'.
-use Rattle.std.specs.Prelude.{ℕ, zero, suc, ◌<◌, true, false, List, [], ◌∷◌, map, ◌≡◌, eqb, length, get_or, take}
+use Rattle.std.specs.Prelude.{ℕ, zero, suc, ◌<◌, true, false, List, [], ◌∷◌, map, ◌≡◌, eqb, length, get_or, take, Result, Ok, Err}
 use Rattle.spec_text.specs.Bytes.{Bytes, no_part}
 use Rattle.spec_text.specs.Reading.{Reading, tree, refusal}
 use Rattle.work_rows.specs.Layout.{row_of, offset_at}
 use Rattle.read_names.specs.ChainsModel.{Names}
 use Rattle.work_rows.specs.Rows.{Row, row, rows_t}
-use Rattle.read_tree.specs.declared.Read.{Read}
-use Rattle.read_tree.specs.declared.Read.TheVariants as R
+use Rattle.spec_text.specs.Numbers.{refusal_number}
+use Rattle.spec_text.specs.declared.refusal.Refused.{Refused}
+use Rattle.read_tree.specs.declared.Tree.{Tree}
 
 -- a row's first number
 abbrev pub number_of : Row → ℕ
@@ -41,15 +42,20 @@ pub record Holds (text : Bytes) (rows : List Row) (w : List ℕ) : Type 0 where
   pub names : Names text (map name_in rows) w
 
 -- ---- the answer
-abbrev pub answer_of : Reading → Read
-answer_of (tree t) = R.Tree (length t.globals) (length (rows_t t))
-answer_of (refusal k n) = R.Refused k n
+-- what an answer says in the documents' numbers: a refusal is a number and a line
+abbrev pub in_numbers : {A : Type 0} → Result A Refused → Result A (ℕ × ℕ)
+in_numbers (Ok a) = Ok a
+in_numbers (Err e) = Err (refusal_number e.why, e.line)
+
+abbrev pub answer_of : Reading → Result Tree (ℕ × ℕ)
+answer_of (tree t) = Ok (record { globals = length t.globals; lines = length (rows_t t) })
+answer_of (refusal k n) = Err (k, n)
 
 -- of a text that is refused, the work buffer is unspecified
 abbrev pub Kept : Bytes → Reading → List ℕ → Type 0
 Kept text (tree t) w = Holds text (rows_t t) w
 Kept text (refusal k n) w = Unit
 
-pub record Answers (text : Bytes) (x : Reading) (w : List ℕ) (r : Read) : Type 0 where
-  pub answer : r ≡ answer_of x
+pub record Answers (text : Bytes) (x : Reading) (w : List ℕ) (r : Result Tree Refused) : Type 0 where
+  pub answer : in_numbers r ≡ answer_of x
   pub kept : Kept text x w

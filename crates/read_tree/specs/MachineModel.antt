@@ -1,25 +1,36 @@
 -- The reader as it runs: the agenda is a stack in the work buffer. What each function does to the numbers, in the code's own steps.
-use Rattle.std.specs.Prelude.{ℕ, ◌+◌, ◌-◌, ◌*◌, ◌/◌, ◌%◌, ◌≤◌, ◌<◌, Bool, cond, not, List, ◌≡◌, eqb, leb, ltb, length, get_or, drop}
+use Rattle.std.specs.Prelude.{ℕ, ◌+◌, ◌-◌, ◌*◌, ◌/◌, ◌%◌, ◌≤◌, ◌<◌, cond, not, ◌||◌, List, ◌≡◌, eqb, leb, ltb, length, get_or, drop, Option, None, Some, Result, Ok, Err, IfOk}
 use Rattle.spec_text.specs.Bytes.{Bytes}
+use Rattle.spec_text.specs.Numbers.{sort_number}
 use Rattle.spec_text.specs.Reading.{Rest, most_lines, most_params, deepest}
+use Rattle.spec_text.specs.declared.refusal.Refusal.{Refusal}
+use Rattle.spec_text.specs.declared.refusal.Refusal.TheVariants.{LineMissing, LineLeft, Malformed, NotDue, OverLimit}
+use Rattle.spec_text.specs.declared.refusal.Refused.{Refused}
 use Rattle.read_line.specs.LineModel.{line_at}
 use Rattle.read_line.specs.declared.Line.{Line}
 use Rattle.work_rows.specs.Layout.{put, kind_at}
 use Rattle.read_agenda.specs.StackModel.{agenda_base, Stack, stack, pushed, pushed_due, lessened}
 use Rattle.read_names.specs.ChainsModel.{placed, added, cleared}
 use Rattle.read_words.specs.ChildrenModel.{children_by}
-use Rattle.read_tree.specs.declared.Due.{Due}
+use Rattle.read_tree.specs.Laid.{skip}
 use Rattle.read_tree.specs.declared.Progress.{Progress}
-use Rattle.read_tree.specs.declared.Read.{Read}
-use Rattle.read_tree.specs.declared.Read.TheVariants as R
+use Rattle.read_tree.specs.declared.Tree.{Tree}
 
 -- ---- a line that is due, or its refusal: 3, 5, 6 or 7, in this order; line n, with d levels left
-unfoldable pub refusal_of : Bool → Line → ℕ → ℕ → ℕ → ℕ
-refusal_of ended l sort n d =
-    cond ended 3 (cond (not l.ok) 5 (cond (not (eqb l.sort sort)) 6 (cond (ltb (most_lines + 1) n) 7 (cond (ltb most_params l.params) 7 (cond (eqb d 0) 7 0)))))
+abbrev pub refused_for : {A : Type 0} → Refusal → ℕ → Result A Refused
+refused_for why n = Err (record { why = why; line = n })
 
-unfoldable pub due_at : Bytes → ℕ → ℕ → ℕ → ℕ → Due
-due_at text at sort n d = record { refusal = refusal_of (leb (length text) at) (line_at text at) sort n d; line = line_at text at }
+abbrev pub due_line : Line → ℕ → ℕ → ℕ → Result Line Refused
+due_line l sort n d =
+    cond (not (eqb (sort_number l.sort) sort)) (refused_for NotDue n)
+    (cond (ltb (most_lines + 1) n || (ltb most_params l.params || eqb d 0)) (refused_for OverLimit n) (Ok l))
+
+abbrev pub due_if : Option Line → ℕ → ℕ → ℕ → Result Line Refused
+due_if (Some l) sort n d = due_line l sort n d
+due_if None sort n d = refused_for Malformed n
+
+unfoldable pub due_at : Bytes → ℕ → ℕ → ℕ → ℕ → Result Line Refused
+due_at text at sort n d = cond (leb (length text) at) (refused_for LineMissing n) (due_if (line_at text at) sort n d)
 
 -- ---- rows
 unfoldable pub row_written : Bytes → ℕ → ℕ → Line → List ℕ → List ℕ
@@ -36,58 +47,69 @@ pub record Machine : Type 0 where
 abbrev pub machine : List ℕ → Progress → Machine
 machine w s = record { work = w; progress = s }
 
-abbrev pub progress_to : ℕ → ℕ → ℕ → ℕ → Progress
-progress_to at rows top refusal = record { at = at; rows = rows; top = top; refusal = refusal }
+abbrev pub progress_to : ℕ → ℕ → ℕ → Progress
+progress_to at rows top = record { at = at; rows = rows; top = top }
+
+-- where a step of the code has come to, with the numbers that it leaves; or its refusal
+abbrev pub reached : List ℕ → Result Progress Refused → Result Machine Refused
+reached w (Ok s) = Ok (machine w s)
+reached w (Err e) = Err e
 
 abbrev pub onward : Progress → Line → Stack → Machine
-onward s l x = machine x.work (progress_to l.next (s.rows + 1) x.top 0)
+onward s l x = machine x.work (progress_to l.next (s.rows + 1) x.top)
 
 abbrev pub below : Bytes → ℕ → ℕ → Line → Machine → Stack
 below text e d l m =
     pushed_due m.progress.rows (children_by l.kind l.count0 l.count1 l.count2) (d - 1)
     (lessened e (stack (row_written text m.progress.rows m.progress.at l m.work) m.progress.top))
 
-abbrev pub taken_if : Bytes → ℕ → ℕ → Due → Machine → Machine
-taken_if text e d x m =
-    cond (eqb x.refusal 0)
-    (onward m.progress x.line (below text e d x.line m))
-    (machine m.work (progress_to m.progress.at m.progress.rows 0 x.refusal))
+abbrev pub taken_if : Bytes → ℕ → ℕ → Result Line Refused → Machine → Result Machine Refused
+taken_if text e d (Ok l) m = Ok (onward m.progress l (below text e d l m))
+taken_if text e d (Err r) m = Err r
 
 -- the next line is taken, which is due by the entry e
-unfoldable pub taken : Bytes → ℕ → Machine → Machine
+unfoldable pub taken : Bytes → ℕ → Machine → Result Machine Refused
 taken text e m = taken_if text e (e / 8 % 128) (due_at text m.progress.at (e % 8) (m.progress.rows + 2) (e / 8 % 128)) m
 
 abbrev pub entry_of : Machine → ℕ
 entry_of m = get_or m.work (agenda_base + m.progress.top - 1) 0
 
-abbrev pub turn_by : Bytes → ℕ → Machine → Machine
+abbrev pub turn_by : Bytes → ℕ → Machine → Result Machine Refused
 turn_by text e m =
     cond (eqb (e % 8) 7)
-    (machine (row_closed (e / 1_024) m.progress.rows m.work) (progress_to m.progress.at m.progress.rows (m.progress.top - 1) 0))
+    (Ok (machine (row_closed (e / 1_024) m.progress.rows m.work) (progress_to m.progress.at m.progress.rows (m.progress.top - 1))))
     (taken text e m)
 
-unfoldable pub turn_of : Bytes → Machine → Machine
+unfoldable pub turn_of : Bytes → Machine → Result Machine Refused
 turn_of text m = turn_by text (entry_of m) m
 
--- turns until nothing is due
-pub data Turns (text : Bytes) : Machine → Machine → Type 0 where
-  done : {m : Machine} → m.progress.top ≡ 0 → Turns text m m
-  more : {m x : Machine} → 0 < m.progress.top → Turns text (turn_of text m) x → Turns text m x
+-- turns until nothing is due, or a line is refused
+pub data Turns (text : Bytes) : Machine → Result Machine Refused → Type 0 where
+  done : {m : Machine} → m.progress.top ≡ 0 → Turns text m (Ok m)
+  more : {m n : Machine} {x : Result Machine Refused} → 0 < m.progress.top → turn_of text m ≡ Ok n → Turns text n x → Turns text m x
+  out : {m : Machine} {e : Refused} → 0 < m.progress.top → turn_of text m ≡ Err e → Turns text m (Err e)
 
 -- the start, after a first line with these counts that ends before an offset
 unfoldable pub first_machine : ℕ → ℕ → ℕ → List ℕ → Machine
 first_machine globals stmts at w =
     let x = pushed 1 globals deepest (pushed 5 stmts deepest (stack (cleared w) 0)) in
-    machine x.work (progress_to at 0 x.top 0)
+    machine x.work (progress_to at 0 x.top)
 
 -- the rest of the text from an offset on, where line n starts
 abbrev pub rest_at : Bytes → ℕ → ℕ → Rest
 rest_at text at n = record { bytes = drop at text; offset = at; number = n }
 
--- the answer when nothing is due any more
-abbrev pub answer_at : Bytes → ℕ → Progress → Read
-answer_at text globals s =
-    cond (eqb s.refusal 0) (cond (ltb s.at (length text)) (R.Refused 4 (s.rows + 2)) (R.Tree globals s.rows)) (R.Refused s.refusal (s.rows + 2))
+-- a first line: its counts are small, and the next line starts after the first line end
+pub record First (text : Bytes) (l : Line) : Type 0 where
+  pub globals : l.count0 ≤ 4_096
+  pub stmts : l.count1 ≤ 4_096
+  pub start : skip 1 0 text ≡ l.next
+  pub inside : l.next ≤ length text
+
+-- the answer where the turns end: refusal 4 where a line is left
+abbrev pub answer_at : Bytes → ℕ → Result Progress Refused → Result Tree Refused
+answer_at text globals (Ok s) = cond (ltb s.at (length text)) (refused_for LineLeft (s.rows + 2)) (Ok (record { globals = globals; lines = s.rows }))
+answer_at text globals (Err e) = Err e
 
 -- what keeps the numbers small, and what falls with each turn
 pub record Bounded (text : Bytes) (s : Progress) : Type 0 where
@@ -98,3 +120,7 @@ pub record Bounded (text : Bytes) (s : Progress) : Type 0 where
 
 abbrev pub left : Bytes → Progress → ℕ
 left text s = s.top + 8 * (length text - s.at)
+
+-- a step that is not refused: the bounds hold again, and less is left
+abbrev pub Onward : Bytes → Progress → Result Progress Refused → Type 0
+Onward text s r = IfOk r (λ t. Bounded text t × (left text t < left text s))

@@ -2,15 +2,18 @@
 // takes one line, writes its row, and puts the lines due below it on the agenda.
 #![tactic(auto)]
 
-ghost use Rattle.std.specs.Prelude.{◌≡◌, ◌+◌, ◌-◌, ◌<◌, ◌≤◌, length};
+ghost use Rattle.std.specs.Prelude.{◌≡◌, ◌+◌, ◌-◌, ◌<◌, ◌≤◌, length, Result, IfOk};
+ghost use Rattle.spec_text.specs.Numbers.{sort_number};
 ghost use Rattle.spec_text.specs.Reading.{reading, ended};
+ghost use Rattle.spec_text.specs.declared.refusal.Refused.{Refused};
+ghost use Rattle.read_agenda.specs.Entries.{due_word};
 ghost use Rattle.read_agenda.specs.AgendaModel.{after};
-ghost use Rattle.read_tree.specs.Laid.{Answers, skip};
-ghost use Rattle.read_tree.specs.MachineModel.{refusal_of, due_at, row_written, row_closed, Machine, machine, taken, turn_of, Turns, answer_at, rest_at, Bounded, left};
+ghost use Rattle.read_tree.specs.Laid.{Answers};
+ghost use Rattle.read_tree.specs.MachineModel.{First, due_at, row_written, row_closed, Machine, machine, reached, taken, turn_of, Turns, answer_at, rest_at, Bounded, left, Onward};
 
-use read_agenda::{AGENDA_BASE, CLOSE, DEPTHS, LEVELS, SORTS};
+use read_agenda::{Due, Entry};
 use read_line::Line;
-use spec_text::{refusal, sort};
+use spec_text::{Refusal, Refused, Sort};
 use work_rows::LINE_KINDS;
 
 // The most bytes of a text, the most lines after the first, the deepest line, the shortest work buffer, the most parameters.
@@ -24,84 +27,51 @@ const SHORTEST_WORK: usize = 16384;
 
 const MOST_PARAMS: usize = 16;
 
-// What a text is: a tree, with so many `global` lines and so many lines after the first; or refused, by number and line.
-#[derive(Clone, Copy)]
-pub enum Read {
-    Tree { globals: usize, lines: usize },
-    Refused { number: usize, line: usize },
+// A tree that was read: how many `global` lines it has, and how many lines after the first.
+#[derive(Clone, Copy, PartialEq, Eq)]
+pub struct Tree {
+    pub globals: usize,
+    pub lines: usize,
 }
 
-// How far the reading is: the offset of the next line, the rows written, the entries of the agenda, and a refusal or 0.
-#[derive(Clone, Copy)]
+// How far the reading is: the offset of the next line, the rows written, and the entries of the agenda.
+#[derive(Clone, Copy, PartialEq, Eq)]
 pub struct Progress {
     pub at: usize,
     pub rows: usize,
     pub top: usize,
-    pub refusal: usize,
 }
 
-// A line that is due, or its refusal.
-#[derive(Clone, Copy)]
-pub struct Due {
-    pub refusal: usize,
-    pub line: Line,
-}
-
-// What is left of a without b; 0 where b is more.
-fn minus(a: usize, b: usize) -> usize
-    ensures { result ≡ a - b }
+// The line that starts at an offset, where line n is due and is one of a sort, with so many levels left.
+#[tactic(auto, unfolding(crate::specs::MachineModel::due_at), using(crate::proofs::SortNumbers::sort_tests))]
+fn line_due(text: &[u8], at: usize, sort: Sort, n: usize, levels: usize) -> Result<Line, Refused>
+    ensures { result ≡ due_at text.now at (sort_number sort) n levels }
 {
-    if b <= a { a - b } else { 0 }
-}
-
-// Refusals 3, 5, 6 and 7, in this order, of line n, which has d levels left.
-#[tactic(auto, unfolding(crate::specs::MachineModel::refusal_of))]
-fn refusal(ended: bool, l: Line, sort: usize, n: usize, d: usize) -> usize
-    ensures { result ≡ refusal_of ended l sort n d }
-{
-    if ended {
-        return refusal::LINE_MISSING;
+    let refused = |why: Refusal| Refused { why: why, line: n };
+    if text.len() <= at {
+        return Err(refused(Refusal::LineMissing));
     }
-    if !l.ok {
-        return refusal::MALFORMED;
+    let line = read_line::line_at(text, at).ok_or(refused(Refusal::Malformed))?;
+    if line.sort != sort {
+        return Err(refused(Refusal::NotDue));
     }
-    if l.sort != sort {
-        return refusal::NOT_DUE;
+    if MOST_LINES + 1 < n || MOST_PARAMS < line.params || levels == 0 {
+        return Err(refused(Refusal::OverLimit));
     }
-    if MOST_LINES + 1 < n {
-        return refusal::OVER_LIMIT;
-    }
-    if MOST_PARAMS < l.params {
-        return refusal::OVER_LIMIT;
-    }
-    if d == 0 {
-        return refusal::OVER_LIMIT;
-    }
-    0
-}
-
-// The line that starts at an offset, where a line of a sort is due.
-#[tactic(auto, unfolding(crate::specs::MachineModel::due_at))]
-fn line_due(text: &[u8], at: usize, sort: usize, n: usize, d: usize) -> Due
-    ensures { result ≡ due_at text.now at sort n d }
-{
-    let l = read_line::line_at(text, at);
-    Due {
-        refusal: refusal(text.len() <= at, l, sort, n, d),
-        line: l,
-    }
+    Ok(line)
 }
 
 // Writes row i: its kind, and its name or where its line starts.
-fn write_row(text: &[u8], work: &mut [u32], i: usize, at: usize, l: Line)
-    requires { (i ≤ 4096) × ((l.len ≡ 0 → ⊥) → l.name < 4294967296) }
-    ensures { work.new ≡ row_written text.now i at l work.old }
+#[tactic(auto, unfolding(crate::specs::MachineModel::row_written))]
+fn write_row(text: &[u8], work: &mut [u32], i: usize, at: usize, line: Line)
+    requires { (i ≤ 4096) × ((line.len ≡ 0 → ⊥) → line.name < 4294967296) }
+    ensures { work.new ≡ row_written text.now i at line work.old }
 {
-    work_rows::put(work, i, l.kind);
-    if l.len == 0 {
+    work_rows::put(work, i, line.kind);
+    if line.len == 0 {
         read_names::place(work, i, at)
     } else {
-        read_names::add(text, work, i, l.name, l.len, l.hash)
+        read_names::add(text, work, i, line.name, line.len, line.hash)
     }
 }
 
@@ -112,152 +82,136 @@ fn close(work: &mut [u32], i: usize, rows: usize)
     ensures { work.new ≡ row_closed i rows work.old }
 {
     let kind = work_rows::kind(work, i);
-    work_rows::put(work, i, kind + LINE_KINDS * minus(rows, i + 1))
+    work_rows::put(work, i, kind + LINE_KINDS * rows.saturating_sub(i + 1))
 }
 
-// Takes the next line, which is due by the entry e.
-fn take_line(text: &[u8], work: &mut [u32], s: Progress, e: usize) -> Progress
+// Takes the next line, which is due by the entry on top.
+#[tactic(auto, using(crate::proofs::InNumbers::taken_due, crate::proofs::Bounds::fresh))]
+fn take_line(text: &[u8], work: &mut [u32], s: Progress, due: Due) -> Result<Progress, Refused>
     requires bounded { Bounded text.now s }
-    requires top_nonzero { 0 < s.top }
-    ensures result_after { machine work.new result ≡ taken text.now e (machine work.old s) }
-    ensures bounded_2 { Bounded text.now result × (left text.now result < left text.now s) }
+    requires some_due { 0 < s.top }
+    ensures line_taken { reached work.new result ≡ taken text.now (due_word due) (machine work.old s) }
+    ensures goes_on { Onward text.now s result }
 {
-    let d = e / SORTS % DEPTHS;
-    let x = line_due(text, s.at, e % SORTS, s.rows + 2, d);
-    if x.refusal != 0 {
-        return Progress {
-            at: s.at,
-            rows: s.rows,
-            top: 0,
-            refusal: x.refusal,
-        };
-    }
-    let l = x.line;
-    write_row(text, work, s.rows, s.at, l);
-    let t = read_agenda::one_less(work, s.top, e);
-    let c = read_words::children_of(
-        l.kind,
-        work_rows::wide(l.count0),
-        work_rows::wide(l.count1),
-        work_rows::wide(l.count2),
+    let line = line_due(text, s.at, due.sort, s.rows + 2, due.levels)?;
+    write_row(text, work, s.rows, s.at, line);
+    let top = read_agenda::one_less(work, s.top, due);
+    let children = read_words::children_of(
+        line.kind,
+        work_rows::wide(line.count0),
+        work_rows::wide(line.count1),
+        work_rows::wide(line.count2),
     );
-    let top = read_agenda::push_due(work, t, s.rows, c, minus(d, 1));
-    Progress {
-        at: l.next,
+    let top = read_agenda::push_due(work, top, s.rows, children, due.levels.saturating_sub(1));
+    Ok(Progress {
+        at: line.next,
         rows: s.rows + 1,
         top: top,
-        refusal: 0,
-    }
+    })
 }
 
 // One turn: what is on top of the agenda.
-fn step(text: &[u8], work: &mut [u32], s: Progress) -> Progress
+#[tactic(auto, unfolding(crate::specs::MachineModel::turn_of))]
+fn step(text: &[u8], work: &mut [u32], s: Progress) -> Result<Progress, Refused>
     requires bounded { Bounded text.now s }
-    requires top_nonzero { 0 < s.top }
-    ensures result_after { machine work.new result ≡ turn_of text.now (machine work.old s) }
-    ensures bounded_2 { Bounded text.now result × (left text.now result < left text.now s) }
+    requires some_due { 0 < s.top }
+    ensures turn_taken { reached work.new result ≡ turn_of text.now (machine work.old s) }
+    ensures goes_on { Onward text.now s result }
 {
-    let e = work_rows::get(work, AGENDA_BASE + s.top - 1);
-    if e % SORTS == CLOSE {
-        close(work, e / LEVELS, s.rows);
-        return Progress {
-            at: s.at,
-            rows: s.rows,
-            top: s.top - 1,
-            refusal: 0,
-        };
+    match read_agenda::on_top(work, s.top) {
+        Entry::Due(due) => take_line(text, work, s, due),
+        Entry::Close(row) => {
+            close(work, row, s.rows);
+            Ok(Progress {
+                top: s.top - 1,
+                ..s
+            })
+        }
     }
-    take_line(text, work, s, e)
 }
 
 // Turn after turn, until nothing is due.
-fn run(text: &[u8], work: &mut [u32], first: Progress) -> Progress
+fn run(text: &[u8], work: &mut [u32], first: Progress) -> Result<Progress, Refused>
     requires { Bounded text.now first }
-    ensures result_after { (x : Machine) → Turns text.now (machine work.old first) x → machine work.new result ≡ x }
-    ensures bounded { Bounded text.now result }
+    ensures turns_taken { (x : Result Machine Refused) → Turns text.now (machine work.old first) x → reached work.new result ≡ x }
+    ensures bounded { IfOk result (λ s. Bounded text.now s) }
 {
     let mut s = first;
     while 0 < s.top {
-        s = step(text, work, s);
+        s = step(text, work, s)?;
     }
-    s
+    Ok(s)
 }
 
-// The answer, when nothing is due any more: refusal 4 where a line is left. A refusal names the next line.
-fn answer(text: &[u8], globals: usize, s: Progress) -> Read
-    requires { s.rows ≤ 4096 }
-    ensures { result ≡ answer_at text.now globals s }
+// The answer when nothing is due any more: refusal 4 where a line is left.
+fn answer(text: &[u8], globals: usize, end: Progress) -> Result<Tree, Refused>
+    requires { end.rows ≤ 4096 }
+    ensures { result ≡ answer_at text.now globals (Ok end) }
 {
-    let line = s.rows + 2;
-    if s.refusal != 0 {
-        return Read::Refused {
-            number: s.refusal,
-            line: line,
-        };
+    if end.at < text.len() {
+        return Err(Refused {
+            why: Refusal::LineLeft,
+            line: end.rows + 2,
+        });
     }
-    if s.at < text.len() {
-        return Read::Refused {
-            number: refusal::LINE_LEFT,
-            line: line,
-        };
-    }
-    Read::Tree {
+    Ok(Tree {
         globals: globals,
-        lines: s.rows,
-    }
+        lines: end.rows,
+    })
 }
 
-// Reads the lines after the first, which has these counts and ends before an offset.
-fn rest(text: &[u8], work: &mut [u32], globals: usize, stmts: usize, at: usize) -> Read
-    requires text_len_bound { (length text.now ≤ 65536) × (16384 ≤ length work.old) × (globals ≤ 4096) × (stmts ≤ 4096) }
-    requires text_value { (skip 1 0 text.now ≡ at) × (at ≤ length text.now) }
-    ensures { Answers text.now (ended (after globals stmts (rest_at text.now at 2))) work.new result }
+// Reads the lines after the first.
+fn rest(text: &[u8], work: &mut [u32], first: Line) -> Result<Tree, Refused>
+    requires in_limits { (length text.now ≤ 65536) × (16384 ≤ length work.old) }
+    requires is_first { First text.now first }
+    ensures { Answers text.now (ended (after first.count0 first.count1 (rest_at text.now first.next 2))) work.new result }
 {
+    let globals = work_rows::wide(first.count0);
+    let stmts = work_rows::wide(first.count1);
     read_names::clear(work);
-    let t = read_agenda::push(work, 0, sort::STMT, stmts, DEEPEST);
-    let top = read_agenda::push(work, t, sort::GLOBAL, globals, DEEPEST);
-    let s = run(
-        text,
+    let top = read_agenda::push(
         work,
-        Progress {
-            at: at,
-            rows: 0,
-            top: top,
-            refusal: 0,
+        0,
+        Due {
+            sort: Sort::Stmt,
+            levels: DEEPEST,
+            count: stmts,
         },
     );
-    answer(text, globals, s)
+    let top = read_agenda::push(
+        work,
+        top,
+        Due {
+            sort: Sort::Global,
+            levels: DEEPEST,
+            count: globals,
+        },
+    );
+    let start = Progress {
+        at: first.next,
+        rows: 0,
+        top: top,
+    };
+    let end = run(text, work, start)?;
+    answer(text, globals, end)
 }
 
 // Reads a tree text: any bytes, any work buffer, whatever it holds.
-pub fn read_tree(text: &[u8], work: &mut [u32]) -> Read
+pub fn read_tree(text: &[u8], work: &mut [u32]) -> Result<Tree, Refused>
     ensures { Answers text.now (reading text.now (length work.old)) work.new result }
 {
     if LONGEST_TEXT < text.len() {
-        return Read::Refused {
-            number: refusal::TEXT_TOO_LONG,
+        return Err(Refused {
+            why: Refusal::TextTooLong,
             line: 0,
-        };
+        });
     }
     if work.len() < SHORTEST_WORK {
-        return Read::Refused {
-            number: refusal::WORK_TOO_SHORT,
+        return Err(Refused {
+            why: Refusal::WorkTooShort,
             line: 0,
-        };
+        });
     }
-    let first = line_due(text, 0, sort::TREE, 1, 1);
-    if first.refusal != 0 {
-        return Read::Refused {
-            number: first.refusal,
-            line: 1,
-        };
-    }
-    let l = first.line;
-    rest(
-        text,
-        work,
-        work_rows::wide(l.count0),
-        work_rows::wide(l.count1),
-        l.next,
-    )
+    let first = line_due(text, 0, Sort::Tree, 1, 1)?;
+    rest(text, work, first)
 }

@@ -1,0 +1,33 @@
+-- The entries of the agenda and their numbers in the work buffer.
+use Rattle.std.specs.Prelude.{ℕ, ◌+◌, ◌/◌, ◌%◌, ◌<◌, ◌≡◌}
+use Rattle.spec_text.specs.Numbers.{sort_number}
+use Rattle.read_agenda.specs.declared.due.Due.{Due}
+use Rattle.read_agenda.specs.declared.Entry.{Entry}
+use Rattle.read_agenda.specs.declared.Entry.TheVariants as E
+use Rattle.read_agenda.specs.StackModel.{agenda_base, Stack, stack, run_word, close_word, pushed}
+use Rattle.work_rows.specs.Layout.{put}
+
+-- the number of an entry
+abbrev pub due_word : Due → ℕ
+due_word d = run_word (sort_number d.sort) d.count d.levels
+
+abbrev pub entry_word : Entry → ℕ
+entry_word (E.Due d) = due_word d
+entry_word (E.Close i) = close_word i
+
+-- an entry whose number can be computed
+abbrev pub EntryFits : Entry → Type 0
+EntryFits (E.Due d) = Unit {0}
+EntryFits (E.Close i) = i < 4_294_967_296
+
+-- the entry of a number, whatever the number is
+abbrev pub IsEntry : ℕ → Entry → Type 0
+IsEntry n (E.Due d) = (sort_number d.sort ≡ n % 8) × (d.levels ≡ n / 8 % 128) × (d.count ≡ n / 1_024)
+IsEntry n (E.Close i) = (n % 8 ≡ 7) × (i ≡ n / 1_024)
+
+-- what is written: an entry over the ones below it; lines, if any are due
+abbrev pub written : Entry → Stack → Stack
+written e x = stack (put x.work (agenda_base + x.top) (entry_word e)) (x.top + 1)
+
+abbrev pub pushed_lines : Due → Stack → Stack
+pushed_lines d x = pushed (sort_number d.sort) d.count d.levels x
