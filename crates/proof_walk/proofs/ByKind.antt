@@ -21,7 +21,7 @@ use Rattle.walk_scopes.specs.ScopesModel.{module', home_number, scope_at, top_of
 use Rattle.read_row.specs.RowModel.{params_of}
 use Rattle.read_row.specs.Worded.{WordedS}
 use Rattle.walk_blocks.specs.BlocksModel.{opened}
-use Rattle.walk_tree.specs.WalkModel.{Walk, walk, next_line, popped, is_block, next_target, target_at, stmt_at, block_at, method_at, head_at, walk_expr, walk_stmt, walk_line}
+use Rattle.walk_tree.specs.WalkModel.{Walk, walk, next_line, popped, is_block, next_target, target_at, stmt_at, block_at, method_at, head_at, walk_expr, walk_stmt, walk_line, assign_at, begun_block}
 use Rattle.proof_walk.specs.Table.{Table, Here}
 use Rattle.proof_walk.proofs.PartRows.{row_kind}
 use Rattle.proof_walk.proofs.WordTests.{simple_test, block_test}
@@ -77,7 +77,7 @@ module _ (text : Bytes) (k : ℕ) (t : ScopeStack) (i : ℕ) (w : List ℕ) (few
 
   pub at_assign : kind_at w i ≡ 6 → (m : ℕ) → after_row w (suc i) ≡ m
       → walk_stmt (suc k) text i (walk t w) ≡ walk t (rows_to next_target (target_at (walk_expr k text false (top_of t)) (top_of t)) m e (walk_expr k text false (top_of t) (suc i) w))
-  unfolding walk_stmt stmt_at
+  unfolding walk_stmt stmt_at assign_at
   at_assign c m p = rw (lt-leb rows_most i few, c, after, add-one i, p) refl
 
   pub at_for : kind_at w i ≡ 10 → (m : ℕ) → after_row w (suc i) ≡ m → (a : ℕ) → number_at w i ≡ a
@@ -93,7 +93,7 @@ module _ (text : Bytes) (k : ℕ) (t : ScopeStack) (i : ℕ) (w : List ℕ) (few
   -- a block with this head, whose scope is b
   at_block : is_block (kind_at w i) ≡ true → (v : List ℕ) → head_at text (top_of t) i w ≡ v → (b : ScopeStack) → scope_at v i ≡ b
       → walk_stmt (suc k) text i (walk t w) ≡ popped (kids text k b e (suc i) (opened text (top_of b) i e (put_link v i t.row)))
-  unfolding walk_stmt stmt_at block_at
+  unfolding walk_stmt stmt_at block_at begun_block
   at_block c v h b s = rw (lt-leb rows_most i few, c, after, add-one i, h, s) refl
 
   pub at_def : kind_at w i ≡ 5 → (a : ℕ) → number_at w i ≡ a → (b : ScopeStack) → scope_at (defined (top_of t) w a) i ≡ b

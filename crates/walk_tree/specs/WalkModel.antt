@@ -67,16 +67,23 @@ popped x = walk (below x.work x.stack) x.work
 abbrev pub entered : Bytes → ℕ → ℕ → Walk → Walk
 entered text i stop x = over (opened text (top_of x.stack) i stop) x
 
+unfoldable pub begun_block : Bytes → ℕ → ℕ → Walk → Walk
+begun_block text i stop x = entered text i stop (pushed i (over (head_at text (top_of x.stack) i) x))
+
 -- `line` walks a line
 unfoldable pub block_at : (ℕ → Walk → Walk) → Bytes → ℕ → ℕ → Walk → Walk
-block_at line text i stop x = popped (rows_to next_line line (i + 1) stop (entered text i stop (pushed i (over (head_at text (top_of x.stack) i) x))))
+block_at line text i stop x = popped (rows_to next_line line (i + 1) stop (begun_block text i stop x))
+
+-- the assignment at a row: its value, and then its target
+unfoldable pub assign_at : (ℕ → List ℕ → List ℕ) → Scope → ℕ → ℕ → List ℕ → List ℕ
+assign_at value s i stop w = rows_to next_target (target_at value s) (after_row w (i + 1)) stop (value (i + 1) w)
 
 -- by their kind: 6 assign, 10 for, 13 class, 15 attr
 unfoldable pub stmt_at : (Bool → Scope → ℕ → List ℕ → List ℕ) → (ℕ → Walk → Walk) → Bytes → ℕ → ScopeStack → List ℕ → Walk
 stmt_at value line text i t w =
     cond (is_block (kind_at w i)) (block_at line text i (after_row w i) (walk t w))
     (cond (eqb (kind_at w i) 6)
-    (walk t (rows_to next_target (target_at (value false (top_of t)) (top_of t)) (after_row w (i + 1)) (after_row w i) (value false (top_of t) (i + 1) w)))
+    (walk t (assign_at (value false (top_of t)) (top_of t) i (after_row w i) w))
     (cond (eqb (kind_at w i) 10)
     (rows_to next_line line (after_row w (i + 1)) (after_row w i) (walk t (defined (top_of t) (value false (top_of t) (i + 1) w) (number_at w i))))
     (cond (eqb (kind_at w i) 13)

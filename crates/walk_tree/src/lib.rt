@@ -5,10 +5,10 @@
 // of a tree that was read is never met with none left. The test for 0 is there so that the walk ends on any numbers.
 #![tactic(auto)]
 
-ghost use Rattle.std.specs.Prelude.{◌≡◌, ◌<◌, ◌≤◌, length};
+ghost use Rattle.std.specs.Prelude.{◌≡◌, ◌<◌, ◌≤◌, false, length};
 ghost use Rattle.walk_scopes.specs.ScopesModel.{scope_of, top_of};
 ghost use Rattle.walk_judge.specs.JudgeModel.{is_called};
-ghost use Rattle.walk_tree.specs.WalkModel.{walk, next_target, method_at, head_at, block_at, walk_target, walk_targets, walk_expr, walk_exprs, walk_stmt, walk_stmts, walk_line, walk_body, walked};
+ghost use Rattle.walk_tree.specs.WalkModel.{walk, next_target, method_at, head_at, begun_block, block_at, assign_at, walk_target, walk_targets, walk_expr, walk_exprs, walk_stmt, walk_stmts, walk_line, walk_body, walked};
 
 use spec_faults::FaultKind;
 use spec_text::line_kind;
@@ -108,6 +108,27 @@ fn walk_exprs(text: &[u8], work: &mut [u32], left: usize, scope: &Scope, first: 
     }
 }
 
+// An expression of a statement, outside of lambdas. It stands apart so that a level of statements has one place for where it stands.
+#[cycle(walks)]
+fn walk_value(text: &[u8], work: &mut [u32], left: usize, s: &ScopeStack, i: usize)
+    ensures { work.new ≡ walk_expr left text.now false (top_of s.now) i work.old }
+{
+    walk_expr(text, work, left, Use::Value, &Scope::new(*s), i)
+}
+
+// The assignment at row i, up to the row stop: its value, and then its target.
+#[cycle(walks)]
+#[tactic(auto, unfolding(crate::specs::WalkModel::assign_at))]
+fn walk_assign(text: &[u8], work: &mut [u32], left: usize, s: &ScopeStack, i: usize, stop: usize)
+    requires { (i < 4096) × (stop ≤ 8192) }
+    ensures { work.new ≡ assign_at (walk_expr left text.now false (top_of s.now)) (top_of s.now) i stop work.old }
+{
+    let scope = Scope::new(*s);
+    let target = work_rows::after_row(work, i + 1);
+    walk_expr(text, work, left, Use::Value, &scope, i + 1);
+    walk_targets(text, work, left, &scope, target, stop)
+}
+
 // A statement, or another line of a block that is no expression.
 #[cycle(walks)]
 #[tactic(auto, using(crate::proofs::Ways::stmt_ways), unfolding(crate::specs::WalkModel::stmt_at))]
@@ -120,16 +141,11 @@ fn walk_stmt(text: &[u8], work: &mut [u32], left: usize, s: &mut ScopeStack, i: 
     let stop = work_rows::after_row(work, i);
     match work_rows::kind(work, i) {
         line_kind::DEF | line_kind::METHOD => walk_block(text, work, left - 1, s, i, stop),
-        line_kind::ASSIGN => {
-            let scope = Scope::new(*s);
-            let target = work_rows::after_row(work, i + 1);
-            walk_expr(text, work, left - 1, Use::Value, &scope, i + 1);
-            walk_targets(text, work, left - 1, &scope, target, stop)
-        }
+        line_kind::ASSIGN => walk_assign(text, work, left - 1, s, i, stop),
         line_kind::FOR => {
             let name = work_rows::number(work, i);
             let body = work_rows::after_row(work, i + 1);
-            walk_expr(text, work, left - 1, Use::Value, &Scope::new(*s), i + 1);
+            walk_value(text, work, left - 1, s, i + 1);
             s.define(work, name);
             walk_stmts(text, work, left - 1, s, body, stop)
         }
@@ -167,16 +183,25 @@ fn walk_head(text: &[u8], work: &mut [u32], s: &ScopeStack, i: usize)
     }
 }
 
-// The def or the method at row i, up to the row stop: its block is a scope of its own.
+// Into the block of the def or the method at row i, up to the row stop: it is a scope of its own.
+#[tactic(auto, unfolding(crate::specs::WalkModel::begun_block))]
+fn begin_block(text: &[u8], work: &mut [u32], s: &mut ScopeStack, i: usize, stop: usize)
+    requires { (i < 4096) × (stop ≤ 16384) }
+    ensures { walk s.new work.new ≡ begun_block text.now i stop (walk s.old work.old) }
+{
+    walk_head(text, work, s, i);
+    s.push(work, i);
+    walk_blocks::enter_block(text, work, &Scope::new(*s), i, stop);
+}
+
+// The def or the method at row i, up to the row stop.
 #[cycle(walks)]
 #[tactic(auto, unfolding(crate::specs::WalkModel::block_at))]
 fn walk_block(text: &[u8], work: &mut [u32], left: usize, s: &mut ScopeStack, i: usize, stop: usize)
     requires { (i < 4096) × (stop ≤ 16384) }
     ensures { walk s.new work.new ≡ block_at (walk_line left text.now) text.now i stop (walk s.old work.old) }
 {
-    walk_head(text, work, s, i);
-    s.push(work, i);
-    walk_blocks::enter_block(text, work, &Scope::new(*s), i, stop);
+    begin_block(text, work, s, i, stop);
     walk_stmts(text, work, left, s, i + 1, stop);
     s.pop(work);
 }
@@ -215,7 +240,7 @@ fn walk_stmts(
         if work_rows::kind(work, at) < line_kind::LIT {
             walk_stmt(text, work, left, s, at);
         } else {
-            walk_expr(text, work, left, Use::Value, &Scope::new(*s), at);
+            walk_value(text, work, left, s, at);
         }
         at = next;
     }

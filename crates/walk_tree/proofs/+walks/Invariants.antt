@@ -29,6 +29,12 @@ decreases-walk_target l = 8 * l.left + 4
 abbrev pub decreases-walk_targets : goal.decreases-walk_targets
 decreases-walk_targets l = 8 * l.left + 5
 
+abbrev pub decreases-walk_assign : goal.decreases-walk_assign
+decreases-walk_assign l = 8 * l.left + 6
+
+abbrev pub decreases-walk_value : goal.decreases-walk_value
+decreases-walk_value l = 8 * l.left + 1
+
 abbrev pub invariant-walk_exprs-loop-at : goal.invariant-walk_exprs-loop-at
 invariant-walk_exprs-loop-at l =
     walk_exprs l.left l.text (scope_of l.scope) l.at l.stop l.work ≡ walk_exprs l.left l.text (scope_of l.scope) l.first l.stop l.initial.work
