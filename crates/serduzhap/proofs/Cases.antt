@@ -12,10 +12,11 @@ use Rattle.spec_faults.specs.Faults.{Fault, faults, records}
 use Rattle.spec_answers.specs.Answers.{accepted, written, faulty, refused, first_record, check_of, Outcome, over, refusing, reported, report_of, wrote_if, message_or, message_in, nth_fault, name_of, name_in}
 use Rattle.report_records.specs.RecordsModel.{numbers}
 use Rattle.report_messages.specs.MessagesModel.{record_message}
-use Rattle.find_faults.specs.declared.Answer.{Answer}
-use Rattle.find_faults.specs.declared.Answer.TheVariants as A
+use Rattle.std.specs.Prelude.{Ok, Err}
+use Rattle.spec_text.specs.Numbers.{refusal_number}
+use Rattle.spec_text.specs.declared.refusal.Refused.{Refused}
 use Rattle.find_faults.specs.Found.{Finds, Kept, Listed}
-use Rattle.serduzhap.specs.Calls.{Gives, part_says}
+use Rattle.serduzhap.specs.Calls.{refusal_says, Gives, part_says}
 use Rattle.write_records.specs.WriteModel.{records_of, record_at}
 use Rattle.serduzhap.proofs.FaultWritten.{part_at, records_shown, name_shown, place_shown, message_shown, at_none, at_some}
 
@@ -68,59 +69,69 @@ module _ (text : Bytes) (w : List ℕ) (fs : List Fault) (s : Listed text fs w) 
         (λ f e. (place_shown text w (s i f e), name_shown text w (s i f e)))
 
 -- ---- a count is a tree's
-module _ {text : Bytes} {x : Reading} {w : List ℕ} {r : Answer} (f : Finds text x w r) where
-  of_tree : (P : ℕ → Reading → Type 0) {n : ℕ} → r ≡ A.Faults n → ((t : Tree) → Kept text (tree t) w → P (length (faults t)) (tree t)) → P n x
-  of_tree P {n} e go = by x f
+module _ {text : Bytes} {x : Reading} {w : List ℕ} {n : ℕ} (f : Finds text x w (Ok n)) where
+  of_tree : (P : ℕ → Reading → Type 0) → ((t : Tree) → Kept text (tree t) w → P (length (faults t)) (tree t)) → P n x
+  of_tree P go = by x f
     where
-      by : (y : Reading) → Finds text y w r → P n y
+      by : (y : Reading) → Finds text y w (Ok n) → P n y
       by (tree t) g = let z : length (faults t) ≡ n = cc g.answer in subst (λ (k : ℕ). P k (tree t)) z (go t g.kept)
       by (refusal k l) g = let z : ◌≡◌ {A = ℕ} 0 1 = cc g.answer in absurd (omega arith)
 
-  module _ {n : ℕ} (e : r ≡ A.Faults n) where
-    pub few : (length text < 65_537) × (n < 4_097)
-    few = of_tree (λ n y. (length text < 65_537) × (n < 4_097)) e (λ t k. k.1)
+  pub few : (length text < 65_537) × (n < 4_097)
+  few = of_tree (λ n y. (length text < 65_537) × (n < 4_097)) (λ t k. k.1)
 
-    pub check_accepted : n ≡ 0 → accepted ≡ check_of x
-    check_accepted = of_tree (λ n y. n ≡ 0 → accepted ≡ check_of y) e (λ t k. first_none text w (faults t) k.0)
+  pub check_accepted : n ≡ 0 → accepted ≡ check_of x
+  check_accepted = of_tree (λ n y. n ≡ 0 → accepted ≡ check_of y) (λ t k. first_none text w (faults t) k.0)
 
-    pub check_faulty : (n ≡ 0 → ⊥) → faulty (numbers (record_at text w 0)) ≡ check_of x
-    check_faulty = of_tree (λ n y. (n ≡ 0 → ⊥) → faulty (numbers (record_at text w 0)) ≡ check_of y) e (λ t k. first_some text w (faults t) k.0)
+  pub check_faulty : (n ≡ 0 → ⊥) → faulty (numbers (record_at text w 0)) ≡ check_of x
+  check_faulty = of_tree (λ n y. (n ≡ 0 → ⊥) → faulty (numbers (record_at text w 0)) ≡ check_of y) (λ t k. first_some text w (faults t) k.0)
 
-    pub report_short : (old : List ℕ) → length old < 7 * n → Gives (report_of (length old) x) old old (refused 16 (n ∷ []))
-    report_short old =
-        of_tree (λ n y. length old < 7 * n → Gives (report_of (length old) y) old old (refused 16 (n ∷ []))) e
-        (λ t k. reported_short text w (faults t) k.0 old)
+  pub report_short : (old : List ℕ) → length old < 7 * n → Gives (report_of (length old) x) old old (refused 16 (n ∷ []))
+  report_short old =
+      of_tree (λ n y. length old < 7 * n → Gives (report_of (length old) y) old old (refused 16 (n ∷ [])))
+      (λ t k. reported_short text w (faults t) k.0 old)
 
-    pub report_written : (old : List ℕ) → 7 * n ≤ length old → Gives (report_of (length old) x) old (over (records_of text w 0 n) old) (written n)
-    report_written old =
-        of_tree (λ n y. 7 * n ≤ length old → Gives (report_of (length old) y) old (over (records_of text w 0 n) old) (written n)) e
-        (λ t k. reported_whole text w (faults t) k.0 old)
+  pub report_written : (old : List ℕ) → 7 * n ≤ length old → Gives (report_of (length old) x) old (over (records_of text w 0 n) old) (written n)
+  report_written old =
+      of_tree (λ n y. 7 * n ≤ length old → Gives (report_of (length old) y) old (over (records_of text w 0 n) old) (written n))
+      (λ t k. reported_whole text w (faults t) k.0 old)
 
-    module _ (i : ℕ) where
-      pub message_none : n ≤ i → (m : ℕ) → refusing (refused 17 []) ≡ message_in i m x
-      message_none =
-          of_tree (λ n y. n ≤ i → (m : ℕ) → refusing (refused 17 []) ≡ message_in i m y) e
-          (λ t k l m. at_none (λ o. refusing (refused 17 []) ≡ message_or m o) (faults t) i l refl)
+  module _ (i : ℕ) where
+    pub message_none : n ≤ i → (m : ℕ) → refusing (refused 17 []) ≡ message_in i m x
+    message_none =
+        of_tree (λ n y. n ≤ i → (m : ℕ) → refusing (refused 17 []) ≡ message_in i m y)
+        (λ t k l m. at_none (λ o. refusing (refused 17 []) ≡ message_or m o) (faults t) i l refl)
 
-      pub message_some : i < n → (m : ℕ) → wrote_if m (record_message text (record_at text w i)) ≡ message_in i m x
-      message_some =
-          of_tree (λ n y. i < n → (m : ℕ) → wrote_if m (record_message text (record_at text w i)) ≡ message_in i m y) e (λ t k. message_at text w (faults t) k.0 i)
+    pub message_some : i < n → (m : ℕ) → wrote_if m (record_message text (record_at text w i)) ≡ message_in i m x
+    message_some =
+        of_tree (λ n y. i < n → (m : ℕ) → wrote_if m (record_message text (record_at text w i)) ≡ message_in i m y) (λ t k. message_at text w (faults t) k.0 i)
 
-      pub name_none : n ≤ i → Names text 0 0 (name_in i x)
-      name_none = of_tree (λ n y. n ≤ i → Names text 0 0 (name_in i y)) e (λ t k l. at_none (λ o. Names text 0 0 (name_of o)) (faults t) i l (refl, no_part text))
+    pub name_none : n ≤ i → Names text 0 0 (name_in i x)
+    name_none = of_tree (λ n y. n ≤ i → Names text 0 0 (name_in i y)) (λ t k l. at_none (λ o. Names text 0 0 (name_of o)) (faults t) i l (refl, no_part text))
 
-      pub name_some : i < n → Names text (record_at text w i).name (record_at text w i).name_len (name_in i x)
-      name_some =
-          of_tree (λ n y. i < n → Names text (record_at text w i).name (record_at text w i).name_len (name_in i y)) e (λ t k. name_at_lem text w (faults t) k.0 i)
+    pub name_some : i < n → Names text (record_at text w i).name (record_at text w i).name_len (name_in i x)
+    name_some =
+        of_tree (λ n y. i < n → Names text (record_at text w i).name (record_at text w i).name_len (name_in i y)) (λ t k. name_at_lem text w (faults t) k.0 i)
 
 -- ---- a refusal is the text's
-module _ {text : Bytes} {x : Reading} {w : List ℕ} {r : Answer} (f : Finds text x w r) {k l : ℕ} (e : r ≡ A.Refused k l) where
-  pub is_refused_lem : refusal k l ≡ x
+module _ {text : Bytes} {x : Reading} {w : List ℕ} {e : Refused} (f : Finds text x w (Err e)) where
+  is_refused_lem : refusal (refusal_number e.why) e.line ≡ x
   is_refused_lem = by x f
     where
-      by : (y : Reading) → Finds text y w r → refusal k l ≡ y
+      by : (y : Reading) → Finds text y w (Err e) → refusal (refusal_number e.why) e.line ≡ y
       by (tree t) g = let z : ◌≡◌ {A = ℕ} 0 1 = cc g.answer in absurd (omega arith)
-      by (refusal k' l') g = cc g.answer
+      by (refusal k n) g =
+          let q : ◌≡◌ {A = ℕ × ℕ} (refusal_number e.why, e.line) (k, n) = cc g.answer in
+          ap (λ (p : ℕ × ℕ). refusal p.0 p.1) q
+
+  pub check_refused : refusal_says e ≡ check_of x
+  check_refused = ap check_of is_refused_lem
+
+  pub report_refused : (m : ℕ) (old : List ℕ) → Gives (report_of m x) old old (refusal_says e)
+  report_refused m old = subst (λ y. Gives (report_of m y) old old (refusal_says e)) is_refused_lem (refl, refl)
+
+  pub message_refused : (i m : ℕ) (old : Bytes) → Gives (message_in i m x) old old (refusal_says e)
+  message_refused i m old = subst (λ y. Gives (message_in i m y) old old (refusal_says e)) is_refused_lem (refl, refl)
 
   pub name_refused : (i : ℕ) → Names text 0 0 (name_in i x)
   name_refused i = subst (λ y. Names text 0 0 (name_in i y)) is_refused_lem (refl, no_part text)

@@ -1,48 +1,54 @@
 -- What the public calls promise: for any text, any work buffer, any output buffer and any i. What a code's answer says in FORMAT.md's
 -- numbers is one definition for each call: its number and its values, case by case.
-use Rattle.std.specs.Prelude.{ℕ, ◌≡◌, List, [], ◌∷◌, length}
+use Rattle.std.specs.Prelude.{ℕ, ◌≡◌, List, [], ◌∷◌, length, Option, None, Some, Result, Ok, Err}
 use Rattle.spec_text.specs.Bytes.{Bytes, Part, part_of}
+use Rattle.spec_text.specs.Numbers.{refusal_number}
+use Rattle.spec_text.specs.declared.refusal.Refused.{Refused}
 use Rattle.spec_answers.specs.Answers.{Answer, accepted, written, faulty, refused, refused_at, check, Outcome, over, report, message, name}
-use Rattle.serduzhap.specs.declared.CheckResult.{CheckResult}
-use Rattle.serduzhap.specs.declared.CheckResult.TheVariants as C
-use Rattle.serduzhap.specs.declared.ReportResult.{ReportResult}
-use Rattle.serduzhap.specs.declared.ReportResult.TheVariants as R
-use Rattle.serduzhap.specs.declared.MessageResult.{MessageResult}
-use Rattle.serduzhap.specs.declared.MessageResult.TheVariants as M
+use Rattle.report_records.specs.declared.Record.{Record}
+use Rattle.serduzhap.specs.declared.ReportError.{ReportError}
+use Rattle.serduzhap.specs.declared.ReportError.TheVariants as R
+use Rattle.serduzhap.specs.declared.MessageError.{MessageError}
+use Rattle.serduzhap.specs.declared.MessageError.TheVariants as M
 use Rattle.serduzhap.specs.declared.NamePart.{NamePart}
 
--- ---- "accepted, or the first fault as its record"; a refusal: its number and its line
-abbrev pub check_says : CheckResult → Answer
-check_says C.Accepted = accepted
-check_says (C.Faulty r) =
+-- ---- a refusal: its number and its line
+abbrev pub refusal_says : Refused → Answer
+refusal_says e = refused_at (refusal_number e.why) e.line
+
+-- ---- "accepted, or the first fault as its record"; a refusal
+abbrev pub check_says : Result (Option Record) Refused → Answer
+check_says (Ok None) = accepted
+check_says (Ok (Some r)) =
     faulty (r.kind ∷ r.start ∷ r.end ∷ r.name ∷ r.name_len ∷ r.class ∷ r.class_len ∷ [])
-check_says (C.Refused k n) = refused_at k n
+check_says (Err e) = refusal_says e
 
 -- check, of a text, with a work buffer of so many numbers, answers r
-abbrev pub Checks : Bytes → ℕ → CheckResult → Type 0
+abbrev pub Checks : Bytes → ℕ → Result (Option Record) Refused → Type 0
 Checks text work r = check_says r ≡ check text work
 
 -- ---- a call's answer is `said`, and the output, which was `old`, is `new`: as the outcome has it
 abbrev pub Gives : Outcome → List ℕ → List ℕ → Answer → Type 0
 Gives o old new said = (said ≡ o.answer) × (new ≡ over o.writes old)
 
--- ---- the count; a refusal: its number, and its line or, for 16, the count
-abbrev pub report_says : ReportResult → Answer
-report_says (R.Written k) = written k
-report_says (R.Refused k n) = refused_at k n
+-- ---- the count; a refusal; 16, "output shorter than 7 × faults", with the count
+abbrev pub report_says : Result ℕ ReportError → Answer
+report_says (Ok k) = written k
+report_says (Err (R.Refused e)) = refusal_says e
+report_says (Err (R.OutputTooShort n)) = refused_at 16 n
 
-abbrev pub Reports : Bytes → ℕ → List ℕ → List ℕ → ReportResult → Type 0
+abbrev pub Reports : Bytes → ℕ → List ℕ → List ℕ → Result ℕ ReportError → Type 0
 Reports text work old new r = Gives (report text work (length old)) old new (report_says r)
 
--- ---- the length; a refusal: its number and its line; 17, "no fault i"; 18, "message longer than the output"
-abbrev pub message_says : MessageResult → Answer
-message_says (M.Written n) = written n
-message_says (M.Refused k n) = refused_at k n
-message_says M.NoFault = refused 17 []
-message_says M.TooLong = refused 18 []
+-- ---- the length; a refusal; 17, "no fault i"; 18, "message longer than the output"
+abbrev pub message_says : Result ℕ MessageError → Answer
+message_says (Ok n) = written n
+message_says (Err (M.Refused e)) = refusal_says e
+message_says (Err M.NoFault) = refused 17 []
+message_says (Err M.TooLong) = refused 18 []
 
 -- message, of fault i
-abbrev pub Messages : Bytes → ℕ → ℕ → Bytes → Bytes → MessageResult → Type 0
+abbrev pub Messages : Bytes → ℕ → ℕ → Bytes → Bytes → Result ℕ MessageError → Type 0
 Messages text work i old new r = Gives (message text work i (length old)) old new (message_says r)
 
 -- ---- where the name of fault i stands in the text

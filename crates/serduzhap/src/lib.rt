@@ -4,114 +4,103 @@
 ghost use Rattle.std.specs.Prelude.{◌≡◌, ◌<◌, ◌*◌, length};
 ghost use Rattle.spec_answers.specs.Answers.{wrote_if, name};
 ghost use Rattle.report_messages.specs.MessagesModel.{record_message};
+ghost use Rattle.serduzhap.specs.declared.ReportError.TheVariants as R;
+ghost use Rattle.serduzhap.specs.declared.MessageError.TheVariants as M;
 ghost use Rattle.serduzhap.specs.Calls.{Checks, Gives, Reports, message_says, Messages, Names};
 
-use find_faults::Answer;
 use report_records::{RECORD, Record};
-use spec_text::refusal;
+use spec_text::Refused;
 
-// Accepted; the record of the first fault; or a refusal, by number and line.
-#[derive(Clone, Copy)]
-pub enum CheckResult {
-    Accepted,
-    Faulty { record: Record },
-    Refused { number: usize, line: usize },
+// Why no report is written: the text is refused, or its records do not fit the output, and then how many there are.
+#[derive(Clone, Copy, PartialEq, Eq)]
+pub enum ReportError {
+    Refused(Refused),
+    OutputTooShort { count: usize },
 }
 
-// So many records written; or a refusal, by number and line, or for 16 the count.
-#[derive(Clone, Copy)]
-pub enum ReportResult {
-    Written { count: usize },
-    Refused { number: usize, line: usize },
+impl From<Refused> for ReportError {
+    ghost from_gives = { λ r e. e ≡ R.Refused r };
+
+    fn from(r: Refused) -> ReportError {
+        ReportError::Refused(r)
+    }
 }
 
-// So many bytes written; a refusal, by number and line; 17, no such fault; 18, the message is longer than the output.
-#[derive(Clone, Copy)]
-pub enum MessageResult {
-    Written { len: usize },
-    Refused { number: usize, line: usize },
+// Why no message is written: the text is refused, there is no such fault, or the message is longer than the output.
+#[derive(Clone, Copy, PartialEq, Eq)]
+pub enum MessageError {
+    Refused(Refused),
     NoFault,
     TooLong,
 }
 
+impl From<Refused> for MessageError {
+    ghost from_gives = { λ r e. e ≡ M.Refused r };
+
+    fn from(r: Refused) -> MessageError {
+        MessageError::Refused(r)
+    }
+}
+
 // A part of the text.
-#[derive(Clone, Copy)]
+#[derive(Clone, Copy, PartialEq, Eq)]
 pub struct NamePart {
     pub offset: usize,
     pub len: usize,
 }
 
-// Accepted, or the first fault as its record.
-pub fn check(text: &[u8], work: &mut [u32]) -> CheckResult
+// Accepted, where there is no record; else that of the first fault.
+pub fn check(text: &[u8], work: &mut [u32]) -> Result<Option<Record>, Refused>
     ensures { Checks text.now (length work.old) result }
 {
-    match find_faults::find(text, work) {
-        Answer::Faults { count } => {
-            if count == 0 {
-                return CheckResult::Accepted;
-            }
-            CheckResult::Faulty {
-                record: find_faults::record_at(text, work, 0),
-            }
-        }
-        Answer::Refused { number, line } => CheckResult::Refused {
-            number: number,
-            line: line,
-        },
+    let count = find_faults::find(text, work)?;
+    if count == 0 {
+        return Ok(None);
     }
+    Ok(Some(find_faults::record_at(text, work, 0)))
 }
 
 // Writes all faults to the output as records, and answers their count.
-pub fn report(text: &[u8], work: &mut [u32], out: &mut [u32]) -> ReportResult
+#[tactic(auto, using(crate::proofs::Cases::report_short, crate::proofs::Cases::report_written))]
+pub fn report(text: &[u8], work: &mut [u32], out: &mut [u32]) -> Result<usize, ReportError>
     ensures { Reports text.now (length work.old) out.old out.new result }
 {
-    match find_faults::find(text, work) {
-        Answer::Faults { count } => {
-            if out.len() < RECORD * count {
-                return ReportResult::Refused {
-                    number: refusal::OUTPUT_TOO_SHORT,
-                    line: count,
-                };
-            }
-            write_records::write_records(text, work, out, count);
-            ReportResult::Written { count: count }
-        }
-        Answer::Refused { number, line } => ReportResult::Refused {
-            number: number,
-            line: line,
-        },
+    let count = find_faults::find(text, work)?;
+    if out.len() < RECORD * count {
+        return Err(ReportError::OutputTooShort { count: count });
     }
+    write_records::write_records(text, work, out, count);
+    Ok(count)
 }
 
 // Writes the message of a record, if there is room for it.
-fn write_message(text: &[u8], out: &mut [u8], r: Record) -> MessageResult
+#[tactic(auto, using(crate::proofs::Over::too_long, crate::proofs::Over::fits))]
+fn write_message(text: &[u8], out: &mut [u8], r: Record) -> Result<usize, MessageError>
     requires { length text.now < 4294967296 }
     ensures { Gives (wrote_if (length out.old) (record_message text.now r)) out.old out.new (message_says result) }
 {
     let len = report_messages::message_len(text, r);
     if out.len() < len {
-        return MessageResult::TooLong;
+        return Err(MessageError::TooLong);
     }
     report_messages::push_message(text, out, 0, r);
-    MessageResult::Written { len: len }
+    Ok(len)
 }
 
 // Writes the message of fault i, and answers its length.
-pub fn message(text: &[u8], work: &mut [u32], i: usize, out: &mut [u8]) -> MessageResult
+pub fn message(
+    text: &[u8],
+    work: &mut [u32],
+    i: usize,
+    out: &mut [u8],
+) -> Result<usize, MessageError>
     ensures { Messages text.now (length work.old) i out.old out.new result }
 {
-    match find_faults::find(text, work) {
-        Answer::Faults { count } => {
-            if count <= i {
-                return MessageResult::NoFault;
-            }
-            write_message(text, out, find_faults::record_at(text, work, i))
-        }
-        Answer::Refused { number, line } => MessageResult::Refused {
-            number: number,
-            line: line,
-        },
+    let count = find_faults::find(text, work)?;
+    if count <= i {
+        return Err(MessageError::NoFault);
     }
+    write_message(text, out, find_faults::record_at(text, work, i))
 }
 
 // Where the name of fault i stands in the text; 0, 0 where there is none.
@@ -119,17 +108,14 @@ pub fn name_part(text: &[u8], work: &mut [u32], i: usize) -> NamePart
     ensures { Names text.now (length work.old) i result }
 {
     match find_faults::find(text, work) {
-        Answer::Faults { count } => {
-            if count <= i {
-                return NamePart { offset: 0, len: 0 };
-            }
+        Ok(found) if i < found => {
             let r = find_faults::record_at(text, work, i);
             NamePart {
                 offset: r.name,
                 len: r.name_len,
             }
         }
-        Answer::Refused { number, line } => NamePart { offset: 0, len: 0 },
+        _ => NamePart { offset: 0, len: 0 },
     }
 }
 

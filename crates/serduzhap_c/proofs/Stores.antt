@@ -1,45 +1,26 @@
 -- Numbers that are put one after the other are the whole of an answer of that length; those of 32 bits stay as they are.
-use Prim.Native.Nat.{ℕ, zero, suc, ◌%◌, ◌-◌, ◌<◌}
+use Prim.Native.Nat.{ℕ, zero, suc, ◌+◌, ◌%◌, ◌-◌, ◌<◌}
 use native.Mathlib.Omega.{arith}
 use mathlib.Core.Path.{◌≡◌, refl, ap, ap₂, ◌∙◌}
 use mathlib.Core.List.{List, [], ◌∷◌, ◌++◌}
-use lib.ListN.{length, take, drop, replicate, drop_of_length-le}
+use lib.ListN.{length, replicate, get_or}
 use Rattle.spec_text.specs.Bytes.{Part}
 use Rattle.spec_text.proofs.Lists.{All, all_nil, all_cons}
 use Rattle.spec_answers.specs.Answers.{Answer}
-use Rattle.work_rows.specs.Layout.{put}
-use Rattle.report_records.specs.RecordsModel as R
-use Rattle.report_records.specs.RecordsModel.{cut32, numbers32}
-use Rattle.report_records.specs.declared.Record.{Record}
+use Rattle.report_records.specs.RecordsModel.{cut32}
 use Rattle.serduzhap.specs.Calls.{part_says}
 use Rattle.serduzhap.specs.declared.NamePart.{NamePart}
 use Rattle.serduzhap_c.specs.Numbers.{numbers, answer_of, part_answer}
 
-pub two : (l : List ℕ) (a b : ℕ) → length l ≡ 2 → put (put l 0 a) 1 b ≡ cut32 (a ∷ b ∷ [])
-two [] a b e = absurd (omega arith)
-two (x ∷ []) a b e = absurd (omega arith)
-two (x ∷ y ∷ []) a b e = refl
-two (x ∷ y ∷ z ∷ l) a b e = absurd (omega arith)
-
-pub three : (l : List ℕ) (a b c : ℕ) → length l ≡ 3 → put (put (put l 0 a) 1 b) 2 c ≡ cut32 (a ∷ b ∷ c ∷ [])
-three [] a b c e = absurd (omega arith)
-three (x ∷ []) a b c e = absurd (omega arith)
-three (x ∷ y ∷ []) a b c e = absurd (omega arith)
-three (x ∷ y ∷ z ∷ []) a b c e = refl
-three (x ∷ y ∷ z ∷ u ∷ l) a b c e = absurd (omega arith)
-
-pub seven : (l : List ℕ) (k a b c d e f : ℕ) → length l ≡ 7
-    → take 0 l ++ (numbers32 (record { kind = k; start = a % 4_294_967_296; end = b % 4_294_967_296; name = c; name_len = d; class = e; class_len = f }) ++ drop 7 l)
-    ≡ cut32 (k ∷ a ∷ b ∷ c ∷ d ∷ e ∷ f ∷ [])
-seven l k a b c d e f h =
-    let x : a % 4_294_967_296 % 4_294_967_296 ≡ a % 4_294_967_296 = omega arith in
-    let y : b % 4_294_967_296 % 4_294_967_296 ≡ b % 4_294_967_296 = omega arith in
-    rw (drop_of_length-le l {i = 7} (omega (arith, h)), x, y)
-
--- the start and the end of a record, which are read first
-pub with_span : {new : List ℕ} (r : Record) {start end : ℕ} → start ≡ r.start → end ≡ r.end
-    → new ≡ cut32 (r.kind ∷ start ∷ end ∷ r.name ∷ r.name_len ∷ r.class ∷ r.class_len ∷ []) → new ≡ cut32 (R.numbers r)
-with_span r a b h = h ∙ ap₂ (λ s e. cut32 (r.kind ∷ s ∷ e ∷ r.name ∷ r.name_len ∷ r.class ∷ r.class_len ∷ [])) a b
+-- an answer that has so many numbers, and 0 after them
+pub padded : (ns new : List ℕ) (z : ℕ) → length ns + z ≡ length new
+    → ((k : ℕ) → k < length new → get_or new k 0 ≡ get_or ns k 0 % 4_294_967_296) → new ≡ cut32 (ns ++ replicate z 0)
+padded [] [] zero h e = refl
+padded [] [] (suc z) h e = absurd (omega arith)
+padded [] (x ∷ new) zero h e = absurd (omega arith)
+padded [] (x ∷ new) (suc z) h e = ap₂ ◌∷◌ (e 0 (omega arith)) (padded [] new z (omega arith) (λ k l. e (suc k) (omega arith)))
+padded (n ∷ ns) [] z h e = absurd (omega arith)
+padded (n ∷ ns) (x ∷ new) z h e = ap₂ ◌∷◌ (e 0 (omega arith)) (padded ns new z (omega arith) (λ k l. e (suc k) (omega arith)))
 
 -- ---- 32 bits
 abbrev pub Small : ℕ → Type 0
@@ -58,8 +39,12 @@ and_zeros n all_nil = zeros n
 and_zeros n (all_cons h r) = all_cons h (and_zeros n r)
 
 -- an answer that was written with 32 bits of each number is the answer
-pub uncut : (n : ℕ) {a b : Answer} {new : List ℕ} → new ≡ cut32 (answer_of n a) → a ≡ b → All Small (numbers b) → new ≡ answer_of n b
-uncut n {a} {b} e s h = e ∙ ap (λ x. cut32 (answer_of n x)) s ∙ cut_all (and_zeros (n - length (numbers b)) h)
+pub uncut : (n : ℕ) (old : List ℕ) {a b : Answer} {new : List ℕ} → a ≡ b → length old ≡ n → new ≡ cut32 (numbers a ++ replicate (length old - length (numbers a)) 0) → All Small (numbers b)
+    → new ≡ answer_of n b
+uncut n old {a} {b} s l e h =
+    e ∙ ap (λ k. cut32 (numbers a ++ replicate (k - length (numbers a)) 0)) l ∙ ap (λ x. cut32 (answer_of n x)) s ∙ cut_all (and_zeros (n - length (numbers b)) h)
 
-pub uncut_part : (x : Part) {r : NamePart} {new : List ℕ} → new ≡ cut32 (102 ∷ r.offset ∷ r.len ∷ []) → r ≡ part_says x → All Small (part_answer x) → new ≡ part_answer x
-uncut_part x e s h = e ∙ ap (λ (r : NamePart). cut32 (102 ∷ r.offset ∷ r.len ∷ [])) s ∙ cut_all h
+pub uncut_part : (x : Part) (old : List ℕ) {r : NamePart} {new : List ℕ} → r ≡ part_says x → length old ≡ 3 → new ≡ cut32 ((102 ∷ r.offset ∷ r.len ∷ []) ++ replicate (length old - 3) 0)
+    → All Small (part_answer x) → new ≡ part_answer x
+uncut_part x old {r} s l e h =
+    e ∙ ap (λ k. cut32 ((102 ∷ r.offset ∷ r.len ∷ []) ++ replicate (k - 3) 0)) l ∙ ap (λ (r : NamePart). cut32 (102 ∷ r.offset ∷ r.len ∷ [])) s ∙ cut_all h

@@ -2,13 +2,12 @@
 // then 0. Nothing is returned. serduzhap_c_export exports them.
 #![tactic(auto)]
 
-ghost use Rattle.std.specs.Prelude.{◌≡◌, [], ◌∷◌, length};
+ghost use Rattle.std.specs.Prelude.{◌≡◌, ◌≤◌, ◌-◌, ◌++◌, length, replicate};
 ghost use Rattle.spec_answers.specs.Answers.{check, over, report, message, name};
 ghost use Rattle.report_records.specs.RecordsModel.{cut32};
 ghost use Rattle.serduzhap_c.specs.Numbers.{answer_of, part_answer, version};
 
-use report_records::Record;
-use serduzhap::{CheckResult, MessageResult, ReportResult};
+use serduzhap::{MessageError, ReportError};
 use spec_text::refusal;
 
 // The first number of an answer that is neither a refusal nor a fault.
@@ -36,52 +35,14 @@ pub const MINOR: usize = 0;
 
 pub const PATCH: usize = 2;
 
-// Writes an answer of two numbers, 32 bits of each.
-fn put_two(answer: &mut [u32], number: usize, value: usize)
-    requires { length answer.old ≡ 2 }
-    ensures { answer.new ≡ cut32 (number ∷ value ∷ []) }
+// Writes an answer: these numbers, 32 bits of each, and 0 after them.
+fn put(answer: &mut [u32], numbers: &[usize])
+    requires { length numbers.now ≤ length answer.old }
+    ensures { answer.new ≡ cut32 (numbers.now ++ replicate (length answer.old - length numbers.now) 0) }
 {
-    work_rows::put(answer, 0, number);
-    work_rows::put(answer, 1, value);
-}
-
-// Writes an answer of three.
-fn put_three(answer: &mut [u32], number: usize, first: usize, second: usize)
-    requires { length answer.old ≡ 3 }
-    ensures { answer.new ≡ cut32 (number ∷ first ∷ second ∷ []) }
-{
-    work_rows::put(answer, 0, number);
-    work_rows::put(answer, 1, first);
-    work_rows::put(answer, 2, second);
-}
-
-// Writes an answer of seven: it is laid out as a record.
-fn put_seven(
-    answer: &mut [u32],
-    number: usize,
-    start: usize,
-    end: usize,
-    name: usize,
-    name_len: usize,
-    class: usize,
-    class_len: usize,
-)
-    requires { length answer.old ≡ 7 }
-    ensures { answer.new ≡ cut32 (number ∷ start ∷ end ∷ name ∷ name_len ∷ class ∷ class_len ∷ []) }
-{
-    report_records::put_record(
-        answer,
-        0,
-        Record {
-            kind: number,
-            start: (start % 4294967296) as u32,
-            end: (end % 4294967296) as u32,
-            name: name,
-            name_len: name_len,
-            class: class,
-            class_len: class_len,
-        },
-    );
+    for (i, to) in answer.iter_mut().enumerate() {
+        *to = (numbers.get(i).copied().unwrap_or(0) % 4294967296) as u32;
+    }
 }
 
 // Accepted, or the first fault.
@@ -89,18 +50,20 @@ pub fn serduzhap_check(text: &[u8], work: &mut [u32], answer: &mut [u32; CHECK_A
     ensures { answer.new ≡ answer_of 7 (check text.now (length work.old)) }
 {
     match serduzhap::check(text, work) {
-        CheckResult::Accepted => put_seven(answer, ACCEPTED, 0, 0, 0, 0, 0, 0),
-        CheckResult::Faulty { record } => put_seven(
+        Ok(None) => put(answer, &[ACCEPTED]),
+        Ok(Some(record)) => put(
             answer,
-            record.kind,
-            work_rows::wide(record.start),
-            work_rows::wide(record.end),
-            record.name,
-            record.name_len,
-            record.class,
-            record.class_len,
+            &[
+                record.kind,
+                work_rows::wide(record.start),
+                work_rows::wide(record.end),
+                record.name,
+                record.name_len,
+                record.class,
+                record.class_len,
+            ],
         ),
-        CheckResult::Refused { number, line } => put_seven(answer, number, line, 0, 0, 0, 0, 0),
+        Err(refused) => put(answer, &[refused.why.number(), refused.line]),
     }
 }
 
@@ -115,8 +78,12 @@ pub fn serduzhap_report(
     ensures out_after { out.new ≡ over (report text.now (length work.old) (length out.old)).writes out.old }
 {
     match serduzhap::report(text, work, out) {
-        ReportResult::Written { count } => put_two(answer, WRITTEN, count),
-        ReportResult::Refused { number, line } => put_two(answer, number, line),
+        Ok(count) => put(answer, &[WRITTEN, count]),
+        Err(ReportError::Refused(refused)) => put(answer, &[refused.why.number(), refused.line]),
+        Err(ReportError::OutputTooShort { count }) => put(
+            answer,
+            &[refusal::OUTPUT_TOO_SHORT, count],
+        ),
     }
 }
 
@@ -132,10 +99,10 @@ pub fn serduzhap_message(
     ensures out_after { out.new ≡ over (message text.now (length work.old) i (length out.old)).writes out.old }
 {
     match serduzhap::message(text, work, i, out) {
-        MessageResult::Written { len } => put_two(answer, WRITTEN, len),
-        MessageResult::Refused { number, line } => put_two(answer, number, line),
-        MessageResult::NoFault => put_two(answer, refusal::NO_SUCH_FAULT, 0),
-        MessageResult::TooLong => put_two(answer, refusal::MESSAGE_TOO_LONG, 0),
+        Ok(len) => put(answer, &[WRITTEN, len]),
+        Err(MessageError::Refused(refused)) => put(answer, &[refused.why.number(), refused.line]),
+        Err(MessageError::NoFault) => put(answer, &[refusal::NO_SUCH_FAULT]),
+        Err(MessageError::TooLong) => put(answer, &[refusal::MESSAGE_TOO_LONG]),
     }
 }
 
@@ -144,12 +111,12 @@ pub fn serduzhap_name(text: &[u8], work: &mut [u32], i: usize, answer: &mut [u32
     ensures { answer.new ≡ part_answer (name text.now (length work.old) i) }
 {
     let part = serduzhap::name_part(text, work, i);
-    put_three(answer, PART, part.offset, part.len);
+    put(answer, &[PART, part.offset, part.len]);
 }
 
 // The version of this library.
 pub fn serduzhap_version(answer: &mut [u32; VERSION_ANSWER])
     ensures { answer.new ≡ version }
 {
-    put_three(answer, MAJOR, MINOR, PATCH);
+    put(answer, &[MAJOR, MINOR, PATCH]);
 }

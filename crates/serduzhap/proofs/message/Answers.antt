@@ -9,16 +9,16 @@ pub returns-then-count-i : goal.returns-then-count-i
 returns-then-count-i c =
     let a = c.args in
     let o = a.out.now in
-    let e = message_none c.find.ensures c.in-Faults.is a.i c.if-count-i.true (length o) in
+    let e = message_none c.in_ok-count.ensures a.i c.if-count-i.true (length o) in
     (ap (λ (x : Outcome). x.answer) e, ap (λ (x : Outcome). over x.writes o) e)
 
-pub returns-else-count-i : goal.returns-else-count-i
-returns-else-count-i c =
+pub returns : goal.returns
+returns c =
     let a = c.args in
     let o = a.out.now in
     let e =
     ap (λ x. wrote_if (length o) (record_message a.text.now x)) c.record_at.ensures
-    ∙ message_some c.find.ensures c.in-Faults.is a.i c.if-count-i.false (length o) in (
+    ∙ message_some c.in_ok-count.ensures a.i c.if-count-i.false (length o) in (
       c.write_message.ensures.0 ∙ ap (λ (x : Outcome). x.answer) e,
       c.write_message.ensures.1 ∙ ap (λ (x : Outcome). over x.writes o) e,
     )

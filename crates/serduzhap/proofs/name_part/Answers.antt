@@ -5,11 +5,11 @@ use Rattle.spec_text.specs.Reading.{reading}
 use Rattle.serduzhap.proofs.Cases.{Names, name_none, name_some}
 use Rattle.serduzhap.proofs.name_part.Goals as goal
 
-pub returns-then-count-i : goal.returns-then-count-i
-returns-then-count-i c = name_none c.find.ensures c.in-Faults.is c.args.i c.if-count-i.true
+pub returns-in_default : goal.returns-in_default
+returns-in_default c = name_none c.in-Ok.ensures c.args.i c.if-i-found.false
 
-pub returns-else-count-i : goal.returns-else-count-i
-returns-else-count-i c =
+pub returns-in-Ok : goal.returns-in-Ok
+returns-in-Ok c =
     let a = c.args in
     subst (λ r. Names a.text.now r.name r.name_len (name_in a.i (reading a.text.now (length a.work.now)))) (sym c.record_at-r.ensures)
-    (name_some c.find.ensures c.in-Faults.is a.i c.if-count-i.false)
+    (name_some c.in-Ok.ensures a.i c.if-i-found.true)

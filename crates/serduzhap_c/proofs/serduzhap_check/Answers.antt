@@ -1,16 +1,16 @@
 -- What `check` promises, its answer in numbers.
-use Rattle.std.proofs.Common.{length}
-use Rattle.serduzhap_c.proofs.Stores.{with_span, uncut}
+use Rattle.std.proofs.Common.{length, arith}
+use Rattle.serduzhap_c.proofs.Stores.{uncut}
 use Rattle.serduzhap_c.proofs.Sizes.{check_small}
 use Rattle.serduzhap_c.proofs.serduzhap_check.Goals as goal
 
-pub returns-in-Faulty : goal.returns-in-Faulty
-returns-in-Faulty c =
+pub returns-in-Ok-Some : goal.returns-in-Ok-Some
+returns-in-Ok-Some c =
     let a = c.args in
-    uncut 7 (with_span c.in-Faulty.record c.wide.ensures.0 c.wide-in-Faulty.ensures.0 c.put_seven-in-Faulty.ensures) c.in-Faulty.ensures
-    (check_small a.text.now (length a.work.now))
+    uncut 7 _ (rw c.in-Ok-Some.field-0-is at c.in-Ok-Some.ensures) (omega arith)
+    (rw (c.wide.ensures.0, c.wide-in-Ok-Some.ensures.0) at c.put-in-Ok-Some.ensures) (check_small a.text.now (length a.work.now))
 
-pub returns-in-Refused : goal.returns-in-Refused
-returns-in-Refused c =
+pub returns-in-Err : goal.returns-in-Err
+returns-in-Err c =
     let a = c.args in
-    uncut 7 c.put_seven-in-Refused.ensures c.in-Refused.ensures (check_small a.text.now (length a.work.now))
+    uncut 7 _ c.in-Err.ensures (omega arith) (rw c.number.ensures at c.put-in-Err.ensures) (check_small a.text.now (length a.work.now))

@@ -1,15 +1,16 @@
 -- What `message` promises, its answer in numbers.
-use Rattle.std.proofs.Common.{length}
+use Rattle.std.proofs.Common.{length, arith}
 use Rattle.serduzhap_c.proofs.Stores.{uncut}
 use Rattle.serduzhap_c.proofs.Sizes.{message_small}
 use Rattle.serduzhap_c.proofs.serduzhap_message.Goals as goal
 
-pub returns-in-Written-clause-answer_after : goal.returns-in-Written-clause-answer_after
-returns-in-Written-clause-answer_after c =
+pub returns-in-Ok-clause-answer_after : goal.returns-in-Ok-clause-answer_after
+returns-in-Ok-clause-answer_after c =
     let a = c.args in
-    uncut 2 c.put_two.ensures c.in-Written.ensures.0 (message_small a.text.now (length a.work.now) a.i (length a.out.now))
+    uncut 2 _ c.in-Ok.ensures.0 (omega arith) c.put.ensures (message_small a.text.now (length a.work.now) a.i (length a.out.now))
 
-pub returns-in-Refused-clause-answer_after : goal.returns-in-Refused-clause-answer_after
-returns-in-Refused-clause-answer_after c =
+pub returns-in-Err-Refused-clause-answer_after : goal.returns-in-Err-Refused-clause-answer_after
+returns-in-Err-Refused-clause-answer_after c =
     let a = c.args in
-    uncut 2 c.put_two-in-Refused.ensures c.in-Refused.ensures.0 (message_small a.text.now (length a.work.now) a.i (length a.out.now))
+    uncut 2 _ (rw c.in-Err-Refused.field-0-is at c.in-Err-Refused.ensures.0) (omega arith)
+    (rw c.number.ensures at c.put-in-Err-Refused.ensures) (message_small a.text.now (length a.work.now) a.i (length a.out.now))
