@@ -2,6 +2,7 @@
 -- numbers is one definition for each call: its number and its values, case by case.
 use Rattle.std.specs.Prelude.{ℕ, ◌≡◌, List, [], ◌∷◌, length}
 use Rattle.spec_text.specs.Bytes.{Bytes, Part, part_of}
+use Rattle.spec_faults.specs.Kinds.{kind_number}
 use Rattle.spec_answers.specs.Answers.{Answer, accepted, written, faulty, refused, refused_at, check, Outcome, over, report, message, name}
 use Rattle.serduzhap.specs.declared.CheckResult.{CheckResult}
 use Rattle.serduzhap.specs.declared.CheckResult.TheVariants as C
@@ -15,7 +16,7 @@ use Rattle.serduzhap.specs.declared.NamePart.{NamePart}
 abbrev pub check_says : CheckResult → Answer
 check_says C.Accepted = accepted
 check_says (C.Faulty r) =
-    faulty (r.kind ∷ r.start ∷ r.end ∷ r.name ∷ r.name_len ∷ r.class ∷ r.class_len ∷ [])
+    faulty (kind_number r.kind ∷ r.start ∷ r.end ∷ r.name ∷ r.name_len ∷ r.class ∷ r.class_len ∷ [])
 check_says (C.Refused k n) = refused_at k n
 
 -- check, of a text, with a work buffer of so many numbers, answers r

@@ -9,6 +9,7 @@ ghost use Rattle.serduzhap.specs.Calls.{Checks, Gives, Reports, message_says, Me
 use find_faults::Answer;
 use report_records::{RECORD, Record};
 use spec_text::refusal;
+use write_bytes::Output;
 
 // Accepted; the record of the first fault; or a refusal, by number and line.
 #[derive(Clone, Copy)]
@@ -92,7 +93,7 @@ fn write_message(text: &[u8], out: &mut [u8], r: Record) -> MessageResult
     if out.len() < len {
         return MessageResult::TooLong;
     }
-    report_messages::push_message(text, out, 0, r);
+    report_messages::push_message(text, &mut Output::new(out), r);
     MessageResult::Written { len: len }
 }
 
