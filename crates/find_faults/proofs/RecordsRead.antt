@@ -19,7 +19,7 @@ use Rattle.spec_answers.specs.Answers.{nth_fault}
 use Rattle.read_line.specs.declared.Line.{Line as Numbers}
 use Rattle.read_row.specs.RowModel.{line_of_row}
 use Rattle.report_order.specs.OrderModel.{stored, entry_at}
-use Rattle.report_order.proofs.KindNumbers.{number_again}
+use Rattle.spec_faults.proofs.KindNumbers.{number_again}
 use Rattle.report_records.specs.RecordsModel.{of_lines, record_of, numbers}
 use Rattle.proof_order.specs.Shown.{Shows, Pairs, line_in, of_entry, row_entry}
 use Rattle.work_rows.specs.Rows.{Row}

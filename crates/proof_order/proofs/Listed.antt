@@ -20,11 +20,15 @@ use Rattle.read_tree.specs.Laid.{no_row}
 use Rattle.proof_walk.specs.Slots.{Key, key_of, slots_from, keys}
 use Rattle.report_order.specs.declared.Around.{Around}
 use Rattle.std.proofs.Common.{None, is_some}
-use Rattle.report_order.proofs.KindNumbers.{slot_again}
+use Rattle.spec_faults.proofs.KindNumbers.{number_again}
 use Rattle.report_order.specs.OrderModel.{entry, fault_of, number_of, slot_in, captured, captures, called, itself, new_lambda, around, placed_at, entries_from, any_slot}
 use Rattle.proof_order.specs.Shown.{Shows, Pairs}
 use Rattle.proof_order.proofs.Reach.{word_in, end_in, Free}
 use Rattle.proof_order.proofs.Right.{Outer, Way, at_row, at_call, at_lambda, in_class, Right}
+
+-- ---- a slot that has a number from 8 to 15 has the kind of that number
+slot_again : (n : ℕ) → 8 ≤ n → n ≤ 15 → number_of (fault_of n) ≡ n
+slot_again n l m = rw (ne_eqb n 0 (λ e. omega arith)) (number_again n l m)
 
 -- ---- the slots of m rows from row i on are these faults
 pub data Slotted (w : List ℕ) : ℕ → ℕ → List Fault → Type 0 where

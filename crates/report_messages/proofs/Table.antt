@@ -5,23 +5,9 @@ use mathlib.Core.Path.{◌≡◌, refl, sym, ap, subst, ◌∙◌}
 use mathlib.Core.List.{List, ◌++◌}
 use borrow.Author.Tests.{eq-eqb, ne_eqb}
 use Rattle.spec_text.specs.Bytes.{Bytes}
-use Rattle.spec_faults.specs.declared.fault_kind.FaultKind.{FaultKind}
-use Rattle.spec_faults.specs.declared.fault_kind.FaultKind.TheVariants.{UndefinedVariable, UndefinedFunction, UndefinedCapture, UnboundVariable, UnboundFunction, UnboundCapture, InvalidTarget, MethodWithoutSelf}
-use Rattle.spec_faults.specs.Kinds.{kind_number}
 use Rattle.spec_faults.specs.Faults.{Words, written, message_from, message}
 use Rattle.read_fields.specs.FieldsModel.{field_at}
 use Rattle.report_messages.specs.TextsModel.{past_field, next_words, words_start, words_at, table_from, Rule}
-
--- ---- the numbers of kinds
-pub from_eight : (k : FaultKind) → (8 ≤ kind_number k) × (kind_number k ≤ 15)
-from_eight UndefinedVariable = (omega arith, omega arith)
-from_eight UndefinedFunction = (omega arith, omega arith)
-from_eight UndefinedCapture = (omega arith, omega arith)
-from_eight UnboundVariable = (omega arith, omega arith)
-from_eight UnboundFunction = (omega arith, omega arith)
-from_eight UnboundCapture = (omega arith, omega arith)
-from_eight InvalidTarget = (omega arith, omega arith)
-from_eight MethodWithoutSelf = (omega arith, omega arith)
 
 -- ---- the loop over the lines: a turn, and the end
 pub start_more : (texts : Bytes) (n at b c d : ℕ) → 0 < n → b ≡ past_field texts at → c ≡ past_field texts b → d ≡ past_field texts c

@@ -2,7 +2,8 @@
 use Rattle.std.proofs.Common.{◌≡◌, ◌≤◌, ◌-◌, length, ap, ◌∙◌, arith, length-append}
 use Rattle.spec_faults.specs.Kinds.{kind_number}
 use Rattle.report_messages.specs.TextsModel.{words_start}
-use Rattle.report_messages.proofs.Table.{from_eight, message_found}
+use Rattle.report_messages.proofs.Table.{message_found}
+use Rattle.spec_faults.proofs.KindNumbers.{from_eight}
 use Rattle.report_messages.proofs.Lengths.{part_fits, field_fits}
 use Rattle.report_messages.proofs.Parts.by.Goals as goal
 
