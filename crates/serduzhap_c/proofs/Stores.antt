@@ -1,13 +1,14 @@
 -- Numbers that are put one after the other are the whole of an answer of that length; those of 32 bits stay as they are.
-use Prim.Native.Nat.{ℕ, zero, suc, ◌%◌, ◌-◌, ◌<◌}
+use Prim.Native.Nat.{ℕ, zero, suc, ◌-◌, ◌<◌}
 use native.Mathlib.Omega.{arith}
 use mathlib.Core.Path.{◌≡◌, refl, ap, ap₂, ◌∙◌}
 use mathlib.Core.List.{List, [], ◌∷◌, ◌++◌}
-use lib.ListN.{length, take, drop, replicate, drop_of_length-le}
+use lib.ListN.{length, replicate}
 use Rattle.spec_text.specs.Bytes.{Part}
 use Rattle.spec_text.proofs.Lists.{All, all_nil, all_cons}
 use Rattle.spec_answers.specs.Answers.{Answer}
 use Rattle.work_rows.specs.Layout.{put}
+use Rattle.spec_faults.specs.Kinds.{kind_number}
 use Rattle.report_records.specs.RecordsModel as R
 use Rattle.report_records.specs.RecordsModel.{cut32, numbers32}
 use Rattle.report_records.specs.declared.Record.{Record}
@@ -28,18 +29,10 @@ three (x ∷ y ∷ []) a b c e = absurd (omega arith)
 three (x ∷ y ∷ z ∷ []) a b c e = refl
 three (x ∷ y ∷ z ∷ u ∷ l) a b c e = absurd (omega arith)
 
-pub seven : (l : List ℕ) (k a b c d e f : ℕ) → length l ≡ 7
-    → take 0 l ++ (numbers32 (record { kind = k; start = a % 4_294_967_296; end = b % 4_294_967_296; name = c; name_len = d; class = e; class_len = f }) ++ drop 7 l)
-    ≡ cut32 (k ∷ a ∷ b ∷ c ∷ d ∷ e ∷ f ∷ [])
-seven l k a b c d e f h =
-    let x : a % 4_294_967_296 % 4_294_967_296 ≡ a % 4_294_967_296 = omega arith in
-    let y : b % 4_294_967_296 % 4_294_967_296 ≡ b % 4_294_967_296 = omega arith in
-    rw (drop_of_length-le l {i = 7} (omega (arith, h)), x, y)
-
--- the start and the end of a record, which are read first
-pub with_span : {new : List ℕ} (r : Record) {start end : ℕ} → start ≡ r.start → end ≡ r.end
-    → new ≡ cut32 (r.kind ∷ start ∷ end ∷ r.name ∷ r.name_len ∷ r.class ∷ r.class_len ∷ []) → new ≡ cut32 (R.numbers r)
-with_span r a b h = h ∙ ap₂ (λ s e. cut32 (r.kind ∷ s ∷ e ∷ r.name ∷ r.name_len ∷ r.class ∷ r.class_len ∷ [])) a b
+-- the kind, the start and the end of a record, which are read first
+pub with_span : {new : List ℕ} (r : Record) {kind start end : ℕ} → kind ≡ kind_number r.kind → start ≡ r.start → end ≡ r.end
+    → new ≡ cut32 (kind ∷ start ∷ end ∷ r.name ∷ r.name_len ∷ r.class ∷ r.class_len ∷ []) → new ≡ cut32 (R.numbers r)
+with_span r k a b h = h ∙ rw (k, a, b)
 
 -- ---- 32 bits
 abbrev pub Small : ℕ → Type 0

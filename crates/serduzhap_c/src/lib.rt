@@ -7,7 +7,6 @@ ghost use Rattle.spec_answers.specs.Answers.{check, over, report, message, name}
 ghost use Rattle.report_records.specs.RecordsModel.{cut32};
 ghost use Rattle.serduzhap_c.specs.Numbers.{answer_of, part_answer, version};
 
-use report_records::Record;
 use serduzhap::{CheckResult, MessageResult, ReportResult};
 use spec_text::refusal;
 
@@ -69,19 +68,15 @@ fn put_seven(
     requires { length answer.old ≡ 7 }
     ensures { answer.new ≡ cut32 (number ∷ start ∷ end ∷ name ∷ name_len ∷ class ∷ class_len ∷ []) }
 {
-    report_records::put_record(
-        answer,
-        0,
-        Record {
-            kind: number,
-            start: (start % 4294967296) as u32,
-            end: (end % 4294967296) as u32,
-            name: name,
-            name_len: name_len,
-            class: class,
-            class_len: class_len,
-        },
-    );
+    answer.copy_from_slice(&[
+        (number % 4294967296) as u32,
+        (start % 4294967296) as u32,
+        (end % 4294967296) as u32,
+        (name % 4294967296) as u32,
+        (name_len % 4294967296) as u32,
+        (class % 4294967296) as u32,
+        (class_len % 4294967296) as u32,
+    ]);
 }
 
 // Accepted, or the first fault.
@@ -92,7 +87,7 @@ pub fn serduzhap_check(text: &[u8], work: &mut [u32], answer: &mut [u32; CHECK_A
         CheckResult::Accepted => put_seven(answer, ACCEPTED, 0, 0, 0, 0, 0, 0),
         CheckResult::Faulty { record } => put_seven(
             answer,
-            record.kind,
+            record.kind.number(),
             work_rows::wide(record.start),
             work_rows::wide(record.end),
             record.name,

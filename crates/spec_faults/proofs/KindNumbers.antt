@@ -27,3 +27,14 @@ by_eight (suc (suc (suc (suc (suc (suc (suc (suc j)))))))) l = absurd (omega ari
 
 pub number_again : (n : ℕ) → 8 ≤ n → n ≤ 15 → kind_number (kind_by_number n) ≡ n
 number_again n l m = let e : 8 + (n - 8) ≡ n = omega arith in rw e at (by_eight (n - 8) (omega arith))
+
+-- a kind is that of its number
+pub kind_again : (k : FaultKind) → kind_by_number (kind_number k) ≡ k
+kind_again UndefinedVariable = refl
+kind_again UndefinedFunction = refl
+kind_again UndefinedCapture = refl
+kind_again UnboundVariable = refl
+kind_again UnboundFunction = refl
+kind_again UnboundCapture = refl
+kind_again InvalidTarget = refl
+kind_again MethodWithoutSelf = refl

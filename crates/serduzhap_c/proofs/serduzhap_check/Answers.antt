@@ -7,7 +7,7 @@ use Rattle.serduzhap_c.proofs.serduzhap_check.Goals as goal
 pub returns-in-Faulty : goal.returns-in-Faulty
 returns-in-Faulty c =
     let a = c.args in
-    uncut 7 (with_span c.in-Faulty.record c.wide.ensures.0 c.wide-in-Faulty.ensures.0 c.put_seven-in-Faulty.ensures) c.in-Faulty.ensures
+    uncut 7 (with_span c.in-Faulty.record c.number.ensures c.wide.ensures.0 c.wide-in-Faulty.ensures.0 c.put_seven-in-Faulty.ensures) c.in-Faulty.ensures
     (check_small a.text.now (length a.work.now))
 
 pub returns-in-Refused : goal.returns-in-Refused
