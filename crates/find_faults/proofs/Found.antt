@@ -11,6 +11,7 @@ use Rattle.spec_text.specs.Tree.{Tree, len_ss}
 use Rattle.spec_text.specs.Reading.{Reading, tree, refusal, reading}
 use Rattle.spec_text.proofs.Theorems.{tree_lines, text_length}
 use Rattle.spec_faults.specs.Faults.{faults}
+use Rattle.spec_faults.proofs.FaultKinds.{kinds}
 use Rattle.spec_faults.proofs.Theorems.{at_most_lines}
 use Rattle.work_rows.specs.Rows.{rows_t}
 use Rattle.read_tree.specs.Laid.{Holds, Answers}
@@ -78,7 +79,7 @@ module _ (text : Bytes) (work : ℕ) (t : Tree) (e : reading text work ≡ tree 
           let p = pair_at shown j f at in
           let m = fault_of_lem (faults_fit text work t e) j f at in
           record {
-            record' = record_shown text (rows_t t) after table.few (omega (arith, kept.long, table.room)) line listed (omega (arith, pairs_length shown, few)) j f p.0 p.1;
+            record' = record_shown text (rows_t t) after table.few (omega (arith, kept.long, table.room)) line listed (omega (arith, pairs_length shown, few)) j f (fault_of_lem (kinds t) j f at) p.0 p.1;
             name = m.name.shown;
             class = m.class.shown;
             kind = m.kind;

@@ -10,6 +10,9 @@ use lib.ListN.{length, drop, length-append}
 use lib.Seq.{get_or-append-add, get_or-append_seam}
 use Rattle.spec_text.specs.Bytes.{Bytes}
 use Rattle.spec_text.specs.Reading.{shortest_work}
+use Rattle.spec_faults.specs.Kinds.{kind_by_number}
+use Rattle.spec_faults.proofs.FaultKinds.{FromEight, kinds}
+use Rattle.spec_faults.proofs.KindNumbers.{number_again}
 use Rattle.spec_faults.specs.Faults.{Fault, faults, record7, records}
 use Rattle.spec_answers.specs.Answers.{report, nth_fault, over}
 use Rattle.spec_answers.specs.Printed.{fault_line, fault_lines, refused_line, report_buffer, printed, Prints}
@@ -19,6 +22,7 @@ use Rattle.report_records.specs.declared.Record.{Record}
 use Rattle.print_lines.specs.LinesModel.{record_in, record_line, record_lines}
 use Rattle.find_faults.specs.Found.{Shown}
 use Rattle.find_faults.proofs.Theorems.{faults_shown}
+use Rattle.find_faults.proofs.Fitting.{fault_of_lem}
 use Rattle.serduzhap.specs.Calls.{Gives, report_says}
 use Rattle.serduzhap.specs.declared.ReportResult.{ReportResult}
 use Rattle.serduzhap.specs.declared.ReportResult.TheVariants as R
@@ -31,7 +35,7 @@ both x y = cc
 abbrev record_of : Fault → Record
 record_of f =
     record {
-      kind = f.kind;
+      kind = kind_by_number f.kind;
       start = f.start;
       end = f.end;
       name = f.name.offset;
@@ -54,23 +58,27 @@ record_here p f q =
     )
 
 module _ (text : Bytes) where
-  line_shown : (f : Fault) → Shown text f.name → Shown text f.in_class → record_line text (record_of f) ≡ fault_line f
-  line_shown f x c = rw (x, c)
+  -- of a fault: its kind is one, and the names that it shows are parts of the text
+  abbrev Whole : Fault → Type 0
+  Whole f = FromEight f × (Shown text f.name × Shown text f.in_class)
+
+  line_shown : (f : Fault) → Whole f → record_line text (record_of f) ≡ fault_line f
+  line_shown f (k, (x, c)) = rw (number_again f.kind k.least k.most, x, c)
 
   lines_from : (fs : List Fault) (before after : List ℕ) (j : ℕ) → length before ≡ 7 * j
-      → ((i : ℕ) (f : Fault) → nth_fault fs i ≡ some f → Shown text f.name × Shown text f.in_class)
+      → ((i : ℕ) (f : Fault) → nth_fault fs i ≡ some f → Whole f)
       → record_lines text (before ++ (records fs ++ after)) j (length fs) ≡ fault_lines fs
   lines_from [] p q j e h = refl
   lines_from (f ∷ fs) p q j e h =
       let ns : List ℕ = p ++ (record7 f ++ (records fs ++ q)) in
       let r : record_in ns (7 * j) ≡ record_of f = ap (record_in ns) (sym e) ∙ record_here p f (records fs ++ q) in
       let s = h 0 f refl in
-      both (ap (record_line text) r ∙ line_shown f s.0 s.1)
+      both (ap (record_line text) r ∙ line_shown f s)
       (ap (λ (l : List ℕ). record_lines text l (j + 1) (length fs)) (sym (append_assoc p (record7 f) (records fs ++ q)))
       ∙ lines_from fs (p ++ record7 f) q (j + 1) (omega (arith, length-append p (record7 f))) (λ i g x. h (suc i) g x))
 
   -- those of all faults, in a report that is written over what was there
-  pub lines_reported : (fs : List Fault) (old : List ℕ) → ((j : ℕ) (f : Fault) → nth_fault fs j ≡ some f → Shown text f.name × Shown text f.in_class)
+  pub lines_reported : (fs : List Fault) (old : List ℕ) → ((j : ℕ) (f : Fault) → nth_fault fs j ≡ some f → Whole f)
       → record_lines text (over (records fs) old) 0 (length fs) ≡ fault_lines fs
   lines_reported fs old = lines_from fs [] (drop (length (records fs)) old) 0 refl
 
@@ -86,7 +94,7 @@ module _ (text : Bytes) (work old : List ℕ) (long : length work ≡ shortest_w
       (λ i n d. let z : ◌≡◌ {A = ℕ} 0 1 = cc in absurd (omega arith))
       (λ t g few d.
       let i : k ≡ length (faults t) = cc in
-      (rw (i, d.1) (both (lines_reported text (faults t) old (faults_shown text shortest_work t g)) refl), omega arith)) here
+      (rw (i, d.1) (both (lines_reported text (faults t) old (λ j f at. (fault_of_lem (kinds t) j f at, faults_shown text shortest_work t g j f at))) refl), omega arith)) here
 
   pub print_refused : (k n : ℕ) → r ≡ R.Refused k n → refused_line k n ≡ printed text
   print_refused k n h =

@@ -1,14 +1,34 @@
 // What `namecheck` prints, as bytes in a buffer: the only thing left to the program is to read and to write.
 #![tactic(auto)]
 
-ghost use Rattle.spec_answers.specs.Printed.{Prints};
+ghost use Rattle.spec_answers.specs.Printed.{printed, Prints};
+ghost use Rattle.write_bytes.specs.OutputModel.{Pushed};
 
 use serduzhap::ReportResult;
+use write_bytes::Output;
 
 // The numbers of the report buffer and of the work buffer.
 pub const REPORT: usize = 16384;
 
 pub const WORK: usize = 16384;
+
+// Pushes what `namecheck` prints for a text.
+fn push_printed(
+    text: &[u8],
+    work: &mut [u32; WORK],
+    report: &mut [u32; REPORT],
+    output: &mut Output,
+)
+    ensures { Pushed output.old (printed text.now) output.new }
+{
+    match serduzhap::report(text, work, report) {
+        ReportResult::Written { count } => {
+            print_lines::push_faults(text, report, count, output);
+            print_lines::push_count(output, count);
+        }
+        ReportResult::Refused { number, line } => print_lines::push_refused(output, number, line),
+    }
+}
 
 // Writes what `namecheck` prints for a text, as much as there is room for, and answers how many bytes.
 pub fn print(
@@ -19,11 +39,7 @@ pub fn print(
 ) -> usize
     ensures { Prints text.now out.old out.new result }
 {
-    match serduzhap::report(text, work, report) {
-        ReportResult::Written { count } => {
-            let at = print_lines::push_faults(text, report, count, out);
-            print_lines::push_count(out, at, count)
-        }
-        ReportResult::Refused { number, line } => print_lines::push_refused(out, number, line),
-    }
+    let mut output = Output::new(out);
+    push_printed(text, work, report, &mut output);
+    output.len()
 }

@@ -2,6 +2,7 @@
 use Rattle.std.specs.Prelude.{ℕ, zero, suc, ◌+◌, ◌*◌, List, [], ◌∷◌, ◌++◌, get_or}
 use Rattle.spec_text.specs.Bytes.{Bytes}
 use Rattle.spec_text.specs.Writing.{decimal_of, line_with}
+use Rattle.spec_faults.specs.Kinds.{kind_number, kind_by_number}
 use Rattle.report_records.specs.declared.Record.{Record}
 use Rattle.report_messages.specs.MessagesModel.{record_message}
 
@@ -9,7 +10,7 @@ use Rattle.report_messages.specs.MessagesModel.{record_message}
 abbrev pub record_in : List ℕ → ℕ → Record
 record_in ns at =
     record {
-      kind = get_or ns at 0;
+      kind = kind_by_number (get_or ns at 0);
       start = get_or ns (at + 1) 0;
       end = get_or ns (at + 2) 0;
       name = get_or ns (at + 3) 0;
@@ -19,7 +20,7 @@ record_in ns at =
     }
 
 abbrev pub record_line : Bytes → Record → Bytes
-record_line text r = line_with "fault" (decimal_of r.kind ∷ decimal_of r.start ∷ decimal_of r.end ∷ record_message text r ∷ [])
+record_line text r = line_with "fault" (decimal_of (kind_number r.kind) ∷ decimal_of r.start ∷ decimal_of r.end ∷ record_message text r ∷ [])
 
 -- the lines of n records from the j-th on
 abbrev pub record_lines : Bytes → List ℕ → ℕ → ℕ → Bytes

@@ -15,6 +15,8 @@ use Rattle.spec_text.specs.Reading.{Reading, tree, refusal, reading}
 use Rattle.spec_text.proofs.Lists.{and_split}
 use Rattle.spec_text.proofs.Theorems.{refusal_numbers}
 use Rattle.spec_faults.specs.Faults.{Fault, faults, record_length, records, message_of}
+use Rattle.spec_faults.specs.Kinds.{kind_by_number}
+use Rattle.spec_faults.proofs.KindNumbers.{kind_again}
 use Rattle.spec_faults.proofs.Lists.{All, none as All-none, also}
 use Rattle.spec_answers.specs.Answers.{Answer, accepted, written, faulty, refused, refused_at, Outcome, over, refusing, reported, report_of, nth_fault, wrote_if, message_in}
 use Rattle.spec_answers.proofs.Theorems.{records_length}
@@ -33,7 +35,7 @@ use Rattle.serduzhap_c.specs.Numbers.{numbers}
 abbrev record_of : Answer → Record
 record_of a =
     let ns = numbers a in
-    record { kind = get_or ns 0 0; start = get_or ns 1 0; end = get_or ns 2 0; name = get_or ns 3 0; name_len = get_or ns 4 0; class = get_or ns 5 0; class_len = get_or ns 6 0 }
+    record { kind = kind_by_number (get_or ns 0 0); start = get_or ns 1 0; end = get_or ns 2 0; name = get_or ns 3 0; name_len = get_or ns 4 0; class = get_or ns 5 0; class_len = get_or ns 6 0 }
 
 -- so many records or bytes were written
 abbrev pub count : Answer → ℕ
@@ -44,7 +46,7 @@ count (refused k vs) = 0
 
 pub check_says_lem : (c d : CheckResult) → check_says c ≡ check_says d → c ≡ d
 check_says_lem C.Accepted C.Accepted e = refl
-check_says_lem (C.Faulty r) (C.Faulty q) e = ap (λ a. C.Faulty (record_of a)) e
+check_says_lem (C.Faulty r) (C.Faulty q) e = rw (kind_again r.kind, kind_again q.kind) at (ap (λ a. C.Faulty (record_of a)) e)
 check_says_lem (C.Refused j m) (C.Refused k n) e =
     let a : j ≡ k = cc in
     let b : m ≡ n = cc in

@@ -4,6 +4,7 @@ use Rattle.spec_text.specs.Bytes.{Bytes}
 use Rattle.spec_text.specs.Tree.{Tree}
 use Rattle.spec_text.specs.Reading.{tree, refusal, reading}
 use Rattle.spec_faults.specs.Rule.{Rule}
+use Rattle.spec_faults.specs.Kinds.{kind_number}
 use Rattle.report_records.specs.declared.Record.{Record}
 use Rattle.serduzhap.specs.declared.CheckResult.{CheckResult}
 use Rattle.serduzhap.specs.declared.CheckResult.TheVariants as C
@@ -23,4 +24,4 @@ pub record Passed (text : Bytes) (work : ℕ) (c : CheckResult) : Type 0 where
   pub not_passed : (k n : ℕ) → reading text work ≡ refusal k n → Passes text work → ⊥
   -- "A refusal has a number from 1 to 7, a fault a kind from 8 to 15."
   pub numbers : (k n : ℕ) → c ≡ C.Refused k n → (1 ≤ k) × (k ≤ 7)
-  pub kinds : (r : Record) → c ≡ C.Faulty r → (8 ≤ r.kind) × (r.kind ≤ 15)
+  pub kinds : (r : Record) → c ≡ C.Faulty r → (8 ≤ kind_number r.kind) × (kind_number r.kind ≤ 15)

@@ -19,10 +19,16 @@ use Rattle.work_rows.specs.Rows.{Row}
 use Rattle.read_tree.specs.Laid.{no_row}
 use Rattle.proof_walk.specs.Slots.{Key, key_of, slots_from, keys}
 use Rattle.report_order.specs.declared.Around.{Around}
-use Rattle.report_order.specs.OrderModel.{entry, slot_in, captured, captures, called, itself, new_lambda, around, placed_at, entries_from, any_slot}
+use Rattle.std.proofs.Common.{None, is_some}
+use Rattle.spec_faults.proofs.KindNumbers.{number_again}
+use Rattle.report_order.specs.OrderModel.{entry, fault_of, number_of, slot_in, captured, captures, called, itself, new_lambda, around, placed_at, entries_from, any_slot}
 use Rattle.proof_order.specs.Shown.{Shows, Pairs}
 use Rattle.proof_order.proofs.Reach.{word_in, end_in, Free}
 use Rattle.proof_order.proofs.Right.{Outer, Way, at_row, at_call, at_lambda, in_class, Right}
+
+-- ---- a slot that has a number from 8 to 15 has the kind of that number
+slot_again : (n : ℕ) → 8 ≤ n → n ≤ 15 → number_of (fault_of n) ≡ n
+slot_again n l m = rw (ne_eqb n 0 (λ e. omega arith)) (number_again n l m)
 
 -- ---- the slots of m rows from row i on are these faults
 pub data Slotted (w : List ℕ) : ℕ → ℕ → List Fault → Type 0 where
@@ -30,22 +36,23 @@ pub data Slotted (w : List ℕ) : ℕ → ℕ → List Fault → Type 0 where
   free : {i m : ℕ} {fs : List Fault} → slot_in w i ≡ 0 → Slotted w (suc i) m fs → Slotted w i (suc m) fs
   held : {i m : ℕ} {f : Fault} {fs : List Fault} → f.line ≡ suc (suc i) → slot_in w i ≡ f.kind → Slotted w (suc i) m fs → Slotted w i (suc m) (f ∷ fs)
 
-pub slotted : (w : List ℕ) (m i : ℕ) (fs : List Fault) → i + m ≤ 4_096 → slots_from w i m ≡ keys fs → Slotted w i m fs
-slotted w zero i [] l e = end
-slotted w zero i (f ∷ fs) l e = let z : ◌≡◌ {A = ℕ} 0 1 = cc in absurd (omega arith)
-slotted w (suc m) i fs l e = go (slot_at w i) refl fs e (λ gs. slotted w m (suc i) gs (omega arith))
+pub slotted : {rows : List Row} (w : List ℕ) (m i : ℕ) (fs : List Fault) → i + m ≤ 4_096 → All (Right rows) fs → slots_from w i m ≡ keys fs → Slotted w i m fs
+slotted w zero i [] l r e = end
+slotted w zero i (f ∷ fs) l r e = let z : ◌≡◌ {A = ℕ} 0 1 = cc in absurd (omega arith)
+slotted {rows} w (suc m) i fs l r e = go (slot_at w i) refl fs r e (λ gs. slotted w m (suc i) gs (omega arith))
   where
-    here : slot_in w i ≡ slot_at w i
-    here = ap (λ b. cond b (slot_at w i) 0) (lt-ltb i 4_096 (omega arith))
+    here : slot_in w i ≡ number_of (fault_of (slot_at w i))
+    here = ap (λ b. number_of (cond b (fault_of (slot_at w i)) None)) (lt-ltb i 4_096 (omega arith))
 
-    go : (k : ℕ) → slot_at w i ≡ k → (fs : List Fault) → key_of (suc (suc i)) k ++ slots_from w (suc i) m ≡ keys fs
-        → ((gs : List Fault) → slots_from w (suc i) m ≡ keys gs → Slotted w (suc i) m gs) → Slotted w i (suc m) fs
-    go zero q fs e more = free (here ∙ q) (more fs e)
-    go (suc k) q [] e more = let z : ◌≡◌ {A = ℕ} 0 1 = cc in absurd (omega arith)
-    go (suc k) q (f ∷ fs) e more =
+    go : (k : ℕ) → slot_at w i ≡ k → (fs : List Fault) → All (Right rows) fs → key_of (suc (suc i)) k ++ slots_from w (suc i) m ≡ keys fs
+        → ((gs : List Fault) → All (Right rows) gs → slots_from w (suc i) m ≡ keys gs → Slotted w (suc i) m gs) → Slotted w i (suc m) fs
+    go zero q fs r e more = free (here ∙ ap (λ k. number_of (fault_of k)) q) (more fs r e)
+    go (suc k) q [] r e more = let z : ◌≡◌ {A = ℕ} 0 1 = cc in absurd (omega arith)
+    go (suc k) q (f ∷ fs) (also r rs) e more =
         let a : ◌≡◌ {A = Key} (record { line = suc (suc i); kind = suc k }) (record { line = f.line; kind = f.kind }) = cc in
         let b : slots_from w (suc i) m ≡ keys fs = cc in
-        held (sym (ap (λ (x : Key). x.line) a)) (here ∙ q ∙ ap (λ (x : Key). x.kind) a) (more fs b)
+        let kind : slot_at w i ≡ f.kind = q ∙ ap (λ (x : Key). x.kind) a in
+        held (sym (ap (λ (x : Key). x.line) a)) (here ∙ ap (λ k. number_of (fault_of k)) kind ∙ slot_again f.kind r.kind.0 r.kind.1) (more fs rs b)
 
 -- where no slot has a fault, they are those of none
 pub no_slots : (w : List ℕ) (m i : ℕ) → any_slot w m i ≡ false → slots_from w i m ≡ keys []
@@ -53,7 +60,7 @@ unfolding any_slot
 no_slots w zero i e = refl
 no_slots w (suc m) i e = go (slot_at w i) e (no_slots w m (suc i))
   where
-    go : (k : ℕ) → cond (eqb k 0) (any_slot w m (i + 1)) true ≡ false → (any_slot w m (suc i) ≡ false → slots_from w (suc i) m ≡ [])
+    go : (k : ℕ) → (is_some (fault_of k) || any_slot w m (i + 1)) ≡ false → (any_slot w m (suc i) ≡ false → slots_from w (suc i) m ≡ [])
         → key_of (suc (suc i)) k ++ slots_from w (suc i) m ≡ []
     go zero e more = more (rw add-one at e)
     go (suc k) e more = absurd (false≢true (sym e ∙ rw (ne_eqb (suc k) 0 (λ q. omega arith))))

@@ -46,6 +46,7 @@ pub record Right (rows : List Row) (f : Fault) : Type 0 where
   pub of : ℕ
   pub row : ℕ
   pub at : ℕ
+  pub kind : (8 ≤ f.kind) × (f.kind ≤ 15)
   pub line : f.line ≡ suc (suc row)
   pub place : f.place ≡ suc (suc at)
   pub way : Way rows f.kind of row at
@@ -97,11 +98,12 @@ module _ (rows : List Row) (few : length rows ≤ 4_096) where
         no_class = no_class;
       }
 
-  right_read : (k : ℕ) {p r : Placed} {o i : ℕ} → k < 14 → Stands rows p o → Stands rows r i → Way rows k o i o → Right rows (fault_at k p r)
-  right_read k {p} {r} {o} {i} small at to way = record {
+  right_read : (k : ℕ) {p r : Placed} {o i : ℕ} → 8 ≤ k → k < 14 → Stands rows p o → Stands rows r i → Way rows k o i o → Right rows (fault_at k p r)
+  right_read k {p} {r} {o} {i} least small at to way = record {
     of = o;
     row = i;
     at = o;
+    kind = (omega arith, omega arith);
     line = to.number;
     place = at.number;
     way = way;
@@ -113,6 +115,7 @@ module _ (rows : List Row) (few : length rows ≤ 4_096) where
     of = i;
     row = i;
     at = i;
+    kind = (omega arith, omega arith);
     line = to.number;
     place = to.number;
     way = at_row (tests 14) refl refl;
@@ -124,6 +127,7 @@ module _ (rows : List Row) (few : length rows ≤ 4_096) where
     of = o;
     row = i;
     at = i;
+    kind = (omega arith, omega arith);
     line = to.number;
     place = to.number;
     way = in_class (tests 15) refl word out;
@@ -133,24 +137,24 @@ module _ (rows : List Row) (few : length rows ≤ 4_096) where
   -- ---- reads
   module _ (r : Placed) (i : ℕ) (to : Stands rows r i) where
     right_unbound_here : (u : Use) → Used rows u i → Right rows (unbound_here u r)
-    right_unbound_here value d = right_read 11 (omega arith) to to (at_row (tests 11) refl refl)
-    right_unbound_here (callee c) d = right_read 12 (omega arith) d.1 to (at_call (tests 12) refl d.2 d.3)
+    right_unbound_here value d = right_read 11 (omega arith) (omega arith) to to (at_row (tests 11) refl refl)
+    right_unbound_here (callee c) d = right_read 12 (omega arith) (omega arith) d.1 to (at_call (tests 12) refl d.2 d.3)
 
     right_undefined_here : (u : Use) → Used rows u i → Right rows (undefined_here u r)
-    right_undefined_here value d = right_read 8 (omega arith) to to (at_row (tests 8) refl refl)
-    right_undefined_here (callee c) d = right_read 9 (omega arith) d.1 to (at_call (tests 9) refl d.2 d.3)
+    right_undefined_here value d = right_read 8 (omega arith) (omega arith) to to (at_row (tests 8) refl refl)
+    right_undefined_here (callee c) d = right_read 9 (omega arith) (omega arith) d.1 to (at_call (tests 9) refl d.2 d.3)
 
-    right_captured : (k : ℕ) → k < 14 → Tested k false false true false → (p : Placed) (ps : List Placed) → Under rows i 1 (p ∷ ps) → Right rows (fault_at k (outermost p ps) r)
-    right_captured k small t p ps (under c at free word before over) =
-        right_read k small at to (at_lambda t refl (record { word = word; free = free; before = before; over = omega arith }))
+    right_captured : (k : ℕ) → 8 ≤ k → k < 14 → Tested k false false true false → (p : Placed) (ps : List Placed) → Under rows i 1 (p ∷ ps) → Right rows (fault_at k (outermost p ps) r)
+    right_captured k least small t p ps (under c at free word before over) =
+        right_read k least small at to (at_lambda t refl (record { word = word; free = free; before = before; over = omega arith }))
 
     right_unbound : (ls : List Placed) (u : Use) → Used rows u i → Under rows i 1 ls → Right rows (unbound ls u r)
     right_unbound [] u d n = right_unbound_here u d
-    right_unbound (p ∷ ps) u d n = right_captured 13 (omega arith) (tests 13) p ps n
+    right_unbound (p ∷ ps) u d n = right_captured 13 (omega arith) (omega arith) (tests 13) p ps n
 
     right_undefined : (h : Home) (ls : List Placed) (u : Use) → Used rows u i → Under rows i 1 ls → Right rows (undefined h ls u r)
     right_undefined h [] u d n = right_undefined_here u d
-    right_undefined in_module (p ∷ ps) u d n = right_captured 10 (omega arith) (tests 10) p ps n
+    right_undefined in_module (p ∷ ps) u d n = right_captured 10 (omega arith) (omega arith) (tests 10) p ps n
     right_undefined in_def (p ∷ ps) u d n = right_undefined_here u d
     right_undefined in_method (p ∷ ps) u d n = right_undefined_here u d
 

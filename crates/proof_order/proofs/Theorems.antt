@@ -72,7 +72,7 @@ module _ (t : Tree) {text : Bytes} {num : Bytes → ℕ} {w : List ℕ} (table :
       λ q l. let r = within (whole t) (fits_t t worded) q (omega arith) (omega arith) in (omega (arith, r.0), r.1) in
       rw (statements t)
       (listed (rows_t t) w table.kind table.below fit nowhere 0 (sym (rows_length t)) (over_start (free t 28)) (over_start (free t 13))
-      (slotted w (len_ss t.body) G fs (omega (arith, rows_length t, table.few)) e) right)
+      (slotted w (len_ss t.body) G fs (omega (arith, rows_length t, table.few)) right e) right)
 
   pub entries_shown : slots_from w (length t.globals) (len_ss t.body) ≡ keys (found t)
       → Pairs (Shows (rows_t t)) (entries w (length t.globals) (length (rows_t t))) (faults t)

@@ -1,7 +1,7 @@
 -- The definitions by their tests: what is listed at a row, what is around the rows below it, how many entries a row has, and one row more.
 use Prim.Native.Nat.{ℕ, zero, suc, ◌+◌, ◌-◌, ◌≤◌, ◌<◌}
 use native.Mathlib.Omega.{arith}
-use mathlib.Core.Path.{◌≡◌, refl, sym, ap, ◌∙◌}
+use mathlib.Core.Path.{◌≡◌, ap}
 use mathlib.Core.Bool.{Bool, true, false, cond, ◌&&◌, ◌||◌}
 use mathlib.Core.List.{List, [], ◌∷◌, ◌++◌, append-nil}
 use lib.Dec.{eqb, leb}
@@ -9,25 +9,11 @@ use lib.ListN.{length, length-append}
 use borrow.Author.Tests.{eq-eqb, ne_eqb, le-leb, lt-leb}
 use Rattle.spec_faults.specs.Faults.{capture}
 use Rattle.work_rows.specs.Layout.{kind_at, lines_below, after_row}
-use Rattle.work_marks.specs.MarksModel.{slot_at}
 use Rattle.report_order.specs.declared.Around.{Around}
-use Rattle.report_order.specs.OrderModel.{entry, slot_in, captured, captures, called, itself, new_lambda, new_class, around, placed_at, entries_from, stored, any_slot, any_fault}
-use Rattle.report_order.proofs.Stored.{Same, same_after, captures_same, called_same, entries_same, Left, left_all, left_more, left_none}
-
--- ---- none or one
--- an entry is listed where a test of its slot says so
-pub tested_one : (test : ℕ → Bool) {k s : ℕ} (o i : ℕ) (rest : List ℕ) → k ≡ s → test k ≡ true → cond (test s) (entry s o i ∷ []) rest ≡ entry k o i ∷ []
-tested_one test o i rest e t = rw (← e, t)
-
-pub tested_not : (test : ℕ → Bool) {k s : ℕ} (a b : List ℕ) → k ≡ s → test k ≡ false → cond (test s) a b ≡ b
-tested_not test a b e t = rw (← e, t)
-
-pub one_written : {l : List ℕ} (e j : ℕ) (w : List ℕ) {z : List ℕ} {r : ℕ} → l ≡ e ∷ [] → (z ≡ stored (e ∷ []) j w) × (r ≡ j + 1) → (z ≡ stored l j w) × (r ≡ j + length l)
-one_written e j w q h = (h.0 ∙ ap (λ l. stored l j w) (sym q), omega (arith, h.1, ap length q))
-
-pub none_written : {l : List ℕ} (j : ℕ) (w : List ℕ) → l ≡ [] → (w ≡ stored l j w) × (j ≡ j + length l)
-unfolding stored
-none_written j w q = (ap (λ l. stored l j w) (sym q), omega (arith, ap length q))
+use Rattle.report_order.specs.declared.list.Entries.{Entries}
+use Rattle.report_order.specs.ListModel.{Listed}
+use Rattle.report_order.specs.OrderModel.{entry, slot_in, captured, captures, called, itself, new_lambda, new_class, around, placed_at, entries_from}
+use Rattle.report_order.proofs.Stored.{captures_same, called_same, entries_same, listed_then, listed_same, Left, left_more, left_none}
 
 -- ---- what is around the rows below, by the row's word
 -- a row of the word k past an end, not past it, and one of another word
@@ -56,47 +42,32 @@ module _ (w : List ℕ) (x : Around) (p : ℕ) where
       go false = m
 
 -- ---- one row more
-module _ (w : List ℕ) (p i stop c : ℕ) {all : List ℕ} {from : ℕ} {v : List ℕ} (left : Left (captures w p (stop - i) i) c w all from v) where
-  pub captures_more : i < stop → {z : List ℕ} {d : ℕ} → (z ≡ stored (captured w p i) c w) × (d ≡ c + length (captured w p i))
-      → Left (captures z p (stop - (i + 1)) (i + 1)) d z all from v
+module _ (here : Entries) (p i stop : ℕ) {all : List ℕ} {start : Entries} (left : Left (captures here.work.now p (stop - i) i) here all start) where
+  pub captures_more : i < stop → {next : Entries} → Listed here (captured here.work.now p i) next → Left (captures next.work.now p (stop - (i + 1)) (i + 1)) next all start
   unfolding captures
-  captures_more l {z} {d} h =
+  captures_more l {next} h =
+      let w : List ℕ = here.work.now in
       let n : stop - i ≡ suc (stop - (i + 1)) = omega arith in
-      rw (captures_same w z (same_after (captured w p i) c w h.0) p (stop - (i + 1)) (i + 1))
-      (left_more (captured w p i) (captures w p (stop - (i + 1)) (i + 1)) (ap (λ n. captures w p n i) n) h.0 h.1 left)
+      rw (captures_same w next.work.now (listed_same h) p (stop - (i + 1)) (i + 1))
+      (left_more (captured w p i) (captures w p (stop - (i + 1)) (i + 1)) (ap (λ n. captures w p n i) n) h left)
 
-  pub captures_end : stop ≤ i → (w ≡ stored all from v) × (c ≡ from + length all)
+  pub captures_end : stop ≤ i → Listed start all here
   unfolding captures
-  captures_end l = left_none (ap (λ n. captures w p n i) (let n : stop - i ≡ 0 = omega arith in n)) left
+  captures_end l = left_none (ap (λ n. captures here.work.now p n i) (let n : stop - i ≡ 0 = omega arith in n)) left
 
-module _ (w : List ℕ) (x : Around) (p stop c : ℕ) {all : List ℕ} {from : ℕ} {v : List ℕ} (left : Left (entries_from w x (stop - p) p) c w all from v) where
-  pub entries_more : p < stop → stop ≤ 4_096 → {y : Around} {z : List ℕ} {d : ℕ} → y ≡ around w x p → (z ≡ stored (placed_at w x p) c w) × (d ≡ c + length (placed_at w x p))
-      → Left (entries_from z y (stop - (p + 1)) (p + 1)) d z all from v
+module _ (here : Entries) (x : Around) (p stop : ℕ) {all : List ℕ} {start : Entries} (left : Left (entries_from here.work.now x (stop - p) p) here all start) where
+  pub entries_more : p < stop → stop ≤ 4_096 → {y : Around} {next : Entries} → y ≡ around here.work.now x p → Listed here (placed_at here.work.now x p) next
+      → Left (entries_from next.work.now y (stop - (p + 1)) (p + 1)) next all start
   unfolding entries_from
-  entries_more l m {y} {z} {d} e h =
+  entries_more l m {y} {next} e h =
+      let w : List ℕ = here.work.now in
       let n : stop - p ≡ suc (stop - (p + 1)) = omega arith in
-      rw (e, entries_same w z (same_after (placed_at w x p) c w h.0) (around w x p) (stop - (p + 1)) (p + 1) (omega arith))
-      (left_more (placed_at w x p) (entries_from w (around w x p) (stop - (p + 1)) (p + 1)) (ap (λ n. entries_from w x n p) n) h.0 h.1 left)
+      rw (e, entries_same w next.work.now (listed_same h) (around w x p) (stop - (p + 1)) (p + 1) (omega arith))
+      (left_more (placed_at w x p) (entries_from w (around w x p) (stop - (p + 1)) (p + 1)) (ap (λ n. entries_from w x n p) n) h left)
 
-  pub entries_end : stop ≤ p → (w ≡ stored all from v) × (c ≡ from + length all)
+  pub entries_end : stop ≤ p → Listed start all here
   unfolding entries_from
-  entries_end l = left_none (ap (λ n. entries_from w x n p) (let n : stop - p ≡ 0 = omega arith in n)) left
-
--- whether a slot has a fault, from row i on
-module _ (w : List ℕ) (i stop : ℕ) where
-  any_step : i < stop → any_fault w i stop ≡ cond (eqb (slot_at w i) 0) (any_fault w (i + 1) stop) true
-  unfolding any_slot
-  any_step l = ap (λ n. any_slot w n i) (let n : stop - i ≡ suc (stop - (i + 1)) = omega arith in n)
-
-  pub any_here : i < stop → (slot_at w i ≡ 0 → ⊥) → any_fault w i stop ≡ true
-  any_here l d = any_step l ∙ rw (ne_eqb (slot_at w i) 0 d)
-
-  pub any_more : i < stop → slot_at w i ≡ 0 → any_fault w i stop ≡ any_fault w (i + 1) stop
-  any_more l e = any_step l ∙ rw e
-
-  pub any_end : stop ≤ i → any_fault w i stop ≡ false
-  unfolding any_slot
-  any_end l = ap (λ n. any_slot w n i) (let n : stop - i ≡ 0 = omega arith in n)
+  entries_end l = left_none (ap (λ n. entries_from here.work.now x n p) (let n : stop - p ≡ 0 = omega arith in n)) left
 
 -- ---- how many
 few : (b : Bool) (c d : List ℕ) {n : ℕ} → length c ≤ n → length d ≤ n → length (cond b c d) ≤ n
@@ -133,30 +104,18 @@ module _ (w : List ℕ) (p : ℕ) where
       omega (arith, length-append (itself w (around w x p).class p) (a ++ b), length-append a b, itself_few (around w x p).class)
 
 -- ---- the entries of a row: its own, then those of the rows below it
-module _ (w : List ℕ) (x : Around) (p count : ℕ) (few : p < 4_096) {cls : ℕ} (is : cls ≡ (around w x p).class) {v : List ℕ} {c : ℕ}
-    (own : (v ≡ stored (itself w cls p) count w) × (c ≡ count + length (itself w cls p))) where
-  abbrev Done : List ℕ → ℕ → Type 0
-  Done z r = (z ≡ stored (placed_at w x p) count w) × (r ≡ count + length (placed_at w x p))
-
-  below : {a b : Bool} → new_lambda w x p ≡ a → eqb (kind_at w p) 21 ≡ b
-      → Left (cond a (captures w p (lines_below w p) (p + 1)) [] ++ cond b (called w p) []) c v (placed_at w x p) count w
+module _ {a b : Entries} (x : Around) {p cls : ℕ} (few : p < 4_096) (is : cls ≡ (around a.work.now x p).class) (own : Listed a (itself a.work.now cls p) b) where
+  pub row_none : new_lambda a.work.now x p ≡ false → eqb (kind_at a.work.now p) 21 ≡ false → Listed a (placed_at a.work.now x p) b
   unfolding placed_at
-  below {a} {b} e f =
-      left_more (itself w cls p) (cond a (captures w p (lines_below w p) (p + 1)) [] ++ cond b (called w p) []) (rw (is, e, f)) own.0 own.1 (left_all (placed_at w x p) count w)
+  row_none e f = rw (e, f, append-nil, ← is) own
 
-  same : Same w v
-  same = same_after (itself w cls p) count w own.0
+  pub row_call : new_lambda a.work.now x p ≡ false → eqb (kind_at a.work.now p) 21 ≡ true → {c : Entries} → Listed b (called b.work.now p) c → Listed a (placed_at a.work.now x p) c
+  unfolding placed_at
+  row_call e f h = rw (e, f, ← is, ← called_same a.work.now b.work.now (listed_same own) p) (listed_then own h)
 
-  pub row_none : new_lambda w x p ≡ false → eqb (kind_at w p) 21 ≡ false → Done v c
-  row_none e f = left_none refl (below e f)
-
-  pub row_call : new_lambda w x p ≡ false → eqb (kind_at w p) 21 ≡ true → {z : List ℕ} {r : ℕ} → (z ≡ stored (called v p) c v) × (r ≡ c + length (called v p)) → Done z r
-  row_call e f h = left_none refl (left_more (called v p) [] (sym (called_same w v same p) ∙ sym (append-nil (called v p))) h.0 h.1 (below e f))
-
-  pub row_lambda : new_lambda w x p ≡ true → eqb (kind_at w p) 21 ≡ false → {z : List ℕ} {r stop : ℕ} → stop ≡ after_row v p
-      → (z ≡ stored (captures v p (stop - (p + 1)) (p + 1)) c v) × (r ≡ c + length (captures v p (stop - (p + 1)) (p + 1))) → Done z r
+  pub row_lambda : new_lambda a.work.now x p ≡ true → eqb (kind_at a.work.now p) 21 ≡ false → {c : Entries} {stop : ℕ} → stop ≡ after_row b.work.now p
+      → Listed b (captures b.work.now p (stop - (p + 1)) (p + 1)) c → Listed a (placed_at a.work.now x p) c
+  unfolding placed_at
   row_lambda e f {stop = stop} s h =
-      let n : stop - (p + 1) ≡ lines_below w p = omega (arith, same p (omega arith)) in
-      left_none refl (left_more (captures v p (stop - (p + 1)) (p + 1)) []
-      (append-nil (captures w p (lines_below w p) (p + 1)) ∙ sym (append-nil (captures v p (stop - (p + 1)) (p + 1)) ∙ ap (λ k. captures v p k (p + 1)) n ∙ captures_same w v same p (lines_below w p) (p + 1)))
-      h.0 h.1 (below e f))
+      let n : stop - (p + 1) ≡ lines_below a.work.now p = omega (arith, s, listed_same own p (omega arith)) in
+      rw (e, f, ← is, append-nil (captures a.work.now p (lines_below a.work.now p) (p + 1)), ← n, ← captures_same a.work.now b.work.now (listed_same own) p (stop - (p + 1)) (p + 1)) (listed_then own h)

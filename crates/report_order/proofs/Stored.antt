@@ -11,9 +11,12 @@ use lib.Seq.{get_or-set_other}
 use borrow.Author.Tests.{ltb-true}
 use Rattle.spec_faults.specs.Faults.{capture}
 use Rattle.work_rows.specs.Layout.{put, rows_most}
-use Rattle.report_order.specs.OrderModel.{entry_base, entry, slot_in, captured, captures, called, itself, around, placed_at, entries_from, stored}
+use Rattle.std.proofs.Common.{None}
+use Rattle.report_order.specs.OrderModel.{entry_base, entry, fault_of, number_of, slot_in, captured, captures, called, itself, around, placed_at, entries_from, stored}
 use Rattle.work_marks.specs.MarksModel.{slot_at}
 use Rattle.report_order.specs.declared.Around.{Around}
+use Rattle.report_order.specs.declared.list.Entries.{Entries}
+use Rattle.report_order.specs.ListModel.{Listed}
 
 -- ---- the rows and the slots stay
 abbrev pub Same : List ℕ → List ℕ → Type 0
@@ -32,8 +35,8 @@ module _ (w v : List ℕ) (s : Same w v) where
   slot_same : (i : ℕ) → slot_in v i ≡ slot_in w i
   slot_same i = go (ltb i rows_most) refl
     where
-      go : (b : Bool) → ltb i rows_most ≡ b → cond b (slot_at v i) 0 ≡ cond b (slot_at w i) 0
-      go true e = let l : i < 4_096 = ltb-true i rows_most e in ap (λ x. x / 67_108_864) (s (8_192 + i) (omega arith))
+      go : (b : Bool) → ltb i rows_most ≡ b → number_of (cond b (fault_of (slot_at v i)) None) ≡ number_of (cond b (fault_of (slot_at w i)) None)
+      go true e = let l : i < 4_096 = ltb-true i rows_most e in ap (λ x. number_of (fault_of (x / 67_108_864))) (s (8_192 + i) (omega arith))
       go false e = refl
 
   captured_same : (p i : ℕ) → captured v p i ≡ captured w p i
@@ -76,21 +79,36 @@ stored_append (e ∷ a) b j w =
     stored_append a b (j + 1) (put w (entry_base + j) e)
     ∙ ap (λ k. stored b k (stored a (j + 1) (put w (entry_base + j) e))) (let q : j + 1 + length a ≡ j + suc (length a) = omega arith in q)
 
--- what is left to write from the c-th on gives the same as all of it from the first on
-pub record Left (rest : List ℕ) (c : ℕ) (w : List ℕ) (all : List ℕ) (from : ℕ) (v : List ℕ) : Type 0 where
-  pub written : stored rest c w ≡ stored all from v
-  pub count : c + length rest ≡ from + length all
+-- ---- a list, part by part
+-- a list is the same list
+pub listed_as : {a b : Entries} {es fs : List ℕ} → es ≡ fs → Listed a es b → Listed a fs b
+listed_as {a} {b} e h = subst (λ es. Listed a es b) e h
 
-pub left_all : (all : List ℕ) (from : ℕ) (v : List ℕ) → Left all from v all from v
-left_all all from v = record { written = refl; count = refl }
+pub listed_nothing : (a : Entries) → Listed a [] a
+unfolding stored
+listed_nothing a = record { written = refl; count = omega arith; same_buffer = refl }
 
-pub left_more : {rest : List ℕ} {c : ℕ} {w all : List ℕ} {from : ℕ} {v : List ℕ} (a more : List ℕ) {d : ℕ} {z : List ℕ} → rest ≡ a ++ more → z ≡ stored a c w
-    → d ≡ c + length a → Left rest c w all from v → Left more d z all from v
-left_more {c} {w} a more {d} {z} e p q l = record {
-  written = ap₂ (stored more) q p ∙ (sym (stored_append a more c w) ∙ (ap (λ r. stored r c w) (sym e) ∙ l.written));
-  count = omega (arith, l.count, ap length e, length-append a more);
+pub listed_then : {a b c : Entries} {es fs : List ℕ} → Listed a es b → Listed b fs c → Listed a (es ++ fs) c
+listed_then {a} {es} {fs} h k = record {
+  written = k.written ∙ ap₂ (stored fs) h.count h.written ∙ sym (stored_append es fs a.count a.work.now);
+  count = omega (arith, h.count, k.count, length-append es fs);
+  same_buffer = k.same_buffer ∙ h.same_buffer;
 }
 
-pub left_none : {rest : List ℕ} {c : ℕ} {w all : List ℕ} {from : ℕ} {v : List ℕ} → rest ≡ [] → Left rest c w all from v → (w ≡ stored all from v) × (c ≡ from + length all)
-unfolding stored
-left_none {c} {w} e l = (ap (λ r. stored r c w) (sym e) ∙ l.written, omega (arith, ap length e, l.count))
+-- the rows and the slots stay
+pub listed_same : {a b : Entries} {es : List ℕ} → Listed a es b → Same a.work.now b.work.now
+listed_same {a} {es} h = same_after es a.count a.work.now h.written
+
+-- from here what is left gives the whole list
+pub record Left (rest : List ℕ) (here : Entries) (all : List ℕ) (start : Entries) : Type 0 where
+  pub so : (b : Entries) → Listed here rest b → Listed start all b
+
+pub left_all : (all : List ℕ) (start : Entries) → Left all start all start
+left_all all start = record { so = λ b h. h }
+
+pub left_more : {rest : List ℕ} {here : Entries} {all : List ℕ} {start : Entries} (a more : List ℕ) {next : Entries} → rest ≡ a ++ more → Listed here a next
+    → Left rest here all start → Left more next all start
+left_more a more e h l = record { so = λ b k. l.so b (listed_as (sym e) (listed_then h k)) }
+
+pub left_none : {rest : List ℕ} {here : Entries} {all : List ℕ} {start : Entries} → rest ≡ [] → Left rest here all start → Listed start all here
+left_none {here} e l = l.so here (listed_as (sym e) (listed_nothing here))

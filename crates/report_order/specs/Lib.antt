@@ -1,2 +1,3 @@
--- The faults in the report's order.
+-- The faults in the report's order, and the list that they are written to.
 pub mod OrderModel
+pub mod ListModel

@@ -1,7 +1,10 @@
 -- The faults in the report's order, from the slots: at each row those that have it as their place. A fault is one number: its kind, the row whose
 -- span it shows, and the row whose name it shows.
-use Rattle.std.specs.Prelude.{ℕ, zero, suc, ◌+◌, ◌*◌, ◌-◌, ◌/◌, ◌%◌, Bool, true, false, cond, ◌&&◌, ◌||◌, List, [], ◌∷◌, ◌++◌, eqb, leb, ltb, get_or}
+use Rattle.std.specs.Prelude.{ℕ, zero, suc, ◌+◌, ◌*◌, ◌-◌, ◌/◌, ◌%◌, Bool, cond, ◌&&◌, ◌||◌, List, [], ◌∷◌, ◌++◌, eqb, leb, ltb, get_or, Option, Some, None, is_some}
+use Rattle.std.specs.List.{list_any, range_with_len}
 use Rattle.spec_faults.specs.Faults.{capture}
+use Rattle.spec_faults.specs.declared.fault_kind.FaultKind.{FaultKind}
+use Rattle.spec_faults.specs.Kinds.{kind_number, kind_by_number}
 use Rattle.work_rows.specs.Layout.{put, rows_most, kind_at, lines_below, after_row}
 use Rattle.work_marks.specs.MarksModel.{slot_at}
 use Rattle.report_order.specs.declared.Around.{Around}
@@ -14,9 +17,21 @@ entry_base = 12_288
 abbrev pub entry : ℕ → ℕ → ℕ → ℕ
 entry kind of row = 67_108_864 * kind + 8_192 * of + row
 
--- the slot of row i, and none past the last row: there the entries stand
+-- what a slot says: 0 where there is no fault, else the number of its kind
+abbrev pub fault_of : ℕ → Option FaultKind
+fault_of n = cond (eqb n 0) None (Some (kind_by_number n))
+
+-- the fault of row i, and none past the last row: there the entries stand
+abbrev pub fault_in : List ℕ → ℕ → Option FaultKind
+fault_in w i = cond (ltb i rows_most) (fault_of (slot_at w i)) None
+
+-- the number of its kind, or 0
+abbrev pub number_of : Option FaultKind → ℕ
+number_of None = 0
+number_of (Some k) = kind_number k
+
 abbrev pub slot_in : List ℕ → ℕ → ℕ
-slot_in w i = cond (ltb i rows_most) (slot_at w i) 0
+slot_in w i = number_of (fault_in w i)
 
 -- the captures of the lambda at row p: of row i, and of n rows from row i on
 unfoldable pub captured : List ℕ → ℕ → ℕ → List ℕ
@@ -78,13 +93,12 @@ stored (e ∷ es) j w = stored es (j + 1) (put w (entry_base + j) e)
 -- the j-th
 abbrev pub entry_at : List ℕ → ℕ → Entry
 entry_at w j =
-    record { kind = get_or w (entry_base + j) 0 / 67_108_864; of = get_or w (entry_base + j) 0 / 8_192 % 8_192; row = get_or w (entry_base + j) 0 % 8_192 }
+    record { kind = kind_by_number (get_or w (entry_base + j) 0 / 67_108_864); of = get_or w (entry_base + j) 0 / 8_192 % 8_192; row = get_or w (entry_base + j) 0 % 8_192 }
 
 -- ---- whether a slot has a fault
 -- of n rows from row i on
 unfoldable pub any_slot : List ℕ → ℕ → ℕ → Bool
-any_slot w zero i = false
-any_slot w (suc n) i = cond (eqb (slot_at w i) 0) (any_slot w n (i + 1)) true
+any_slot w n i = list_any (λ j. is_some (fault_of (slot_at w j))) (range_with_len i n)
 
 -- of the rows from `first` up to `rows`
 abbrev pub any_fault : List ℕ → ℕ → ℕ → Bool

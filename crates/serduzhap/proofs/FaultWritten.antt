@@ -9,6 +9,7 @@ use lib.ListN.{length}
 use Rattle.spec_text.specs.Bytes.{Bytes, part_of}
 use Rattle.spec_faults.specs.Faults.{Fault, record7, records}
 use Rattle.spec_faults.specs.Faults as F
+use Rattle.spec_faults.specs.Kinds.{kind_number}
 use Rattle.spec_answers.specs.Answers.{nth_fault}
 use Rattle.report_records.specs.RecordsModel.{numbers, numbers32}
 use Rattle.report_records.specs.declared.Record.{Record}
@@ -64,7 +65,7 @@ module _ (text : Bytes) (r : Record) (f : Fault) (e : numbers r ≡ record7 f) w
 
   message_of_lem : Shown text f.name → Shown text f.in_class → record_message text r ≡ F.message_of f
   message_of_lem h i =
-      let k : r.kind ≡ f.kind = cc in
+      let k : kind_number r.kind ≡ f.kind = cc in
       ap (λ k'. F.message k' (part_of text r.name r.name_len) (part_of text r.class r.class_len)) k
       ∙ ap (λ n. F.message f.kind n (part_of text r.class r.class_len)) (name_of h)
       ∙ ap (F.message f.kind f.name.bytes) (class_of i)

@@ -4,6 +4,7 @@ use Rattle.std.specs.Prelude.{ℕ, ◌≡◌, List, [], ◌∷◌, length, Optio
 use Rattle.spec_text.specs.Bytes.{Bytes, Part, part_of}
 use Rattle.spec_text.specs.Numbers.{refusal_number}
 use Rattle.spec_text.specs.declared.refusal.Refused.{Refused}
+use Rattle.spec_faults.specs.Kinds.{kind_number}
 use Rattle.spec_answers.specs.Answers.{Answer, accepted, written, faulty, refused, refused_at, check, Outcome, over, report, message, name}
 use Rattle.report_records.specs.declared.Record.{Record}
 use Rattle.serduzhap.specs.declared.ReportError.{ReportError}
@@ -20,7 +21,7 @@ refusal_says e = refused_at (refusal_number e.why) e.line
 abbrev pub check_says : Result (Option Record) Refused → Answer
 check_says (Ok None) = accepted
 check_says (Ok (Some r)) =
-    faulty (r.kind ∷ r.start ∷ r.end ∷ r.name ∷ r.name_len ∷ r.class ∷ r.class_len ∷ [])
+    faulty (kind_number r.kind ∷ r.start ∷ r.end ∷ r.name ∷ r.name_len ∷ r.class ∷ r.class_len ∷ [])
 check_says (Err e) = refusal_says e
 
 -- check, of a text, with a work buffer of so many numbers, answers r

@@ -10,6 +10,7 @@ ghost use Rattle.serduzhap.specs.Calls.{Checks, Gives, Reports, message_says, Me
 
 use report_records::{RECORD, Record};
 use spec_text::Refused;
+use write_bytes::Output;
 
 // Why no report is written: the text is refused, or its records do not fit the output, and then how many there are.
 #[derive(Clone, Copy, PartialEq, Eq)]
@@ -83,7 +84,7 @@ fn write_message(text: &[u8], out: &mut [u8], r: Record) -> Result<usize, Messag
     if out.len() < len {
         return Err(MessageError::TooLong);
     }
-    report_messages::push_message(text, out, 0, r);
+    report_messages::push_message(text, &mut Output::new(out), r);
     Ok(len)
 }
 

@@ -54,7 +54,7 @@ pub fn serduzhap_check(text: &[u8], work: &mut [u32], answer: &mut [u32; CHECK_A
         Ok(Some(record)) => put(
             answer,
             &[
-                record.kind,
+                record.kind.number(),
                 work_rows::wide(record.start),
                 work_rows::wide(record.end),
                 record.name,

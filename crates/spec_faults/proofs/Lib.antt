@@ -2,7 +2,7 @@
 --   Lists, Read                   laws of tests, names and lists; a read has no fault, or one
 --   Ascending, Places             the visited lines and the faults ascend by line; every place is a line of the tree
 --   Once, Report                  the report lists each fault once, by place and then by line
---   FaultKinds                    every listed fault has a kind from 8 to 15, and 14 no name
+--   FaultKinds, KindNumbers       every listed fault has a kind from 8 to 15, and 14 no name; the numbers of kinds
 --   FoundBindings, LambdaParams   the tests of a read and the bindings that they find; what is bound in a lambda's block is its parameters
 --   NoFaults                      a tree has no fault exactly when the rule holds of it
 --   ListingWalk                   the walk that lists every fault
@@ -27,6 +27,7 @@ pub mod Places
 pub mod Once
 pub mod Report
 pub mod FaultKinds
+pub mod KindNumbers
 pub mod FoundBindings
 pub mod LambdaParams
 pub mod NoFaults

@@ -26,7 +26,7 @@ fn say_fault(
     work: &mut [u32],
     bytes: &mut [u8],
 ) -> io::Result<()> {
-    test_frames::put(rt, r.kind, b"\t")?;
+    test_frames::put(rt, r.kind.number(), b"\t")?;
     test_frames::put(rt, test_frames::wide(r.start), b"\t")?;
     test_frames::put(rt, test_frames::wide(r.end), b"\t")?;
     say_message(rt, text, work, bytes)?;

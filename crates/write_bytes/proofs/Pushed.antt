@@ -1,101 +1,104 @@
--- Bytes that are pushed one part after the other are pushed at once. One byte is one element set; all else is by induction on the bytes.
-use Prim.Native.Nat.{ℕ, suc, ◌+◌, ◌-◌, ◌≤◌, ◌<◌}
-use native.Mathlib.Nat.{add-zero}
-use native.Mathlib.Numerals.{add-one}
-use native.Mathlib.Omega.{arith}
-use mathlib.Core.Path.{◌≡◌, refl, sym, ◌∙◌}
-use mathlib.Core.Bool.{Bool, true, false}
-use mathlib.Core.List.{List, [], ◌∷◌, ◌++◌, append_assoc}
-use lib.Dec.{ltb}
-use lib.ListN.{length, take, drop, set, length-set, take-append-drop}
-use lib.Seq.{take-nil, take-suc-set, drop-set-lt}
-use borrow.Author.Tests.{ltb-true, ltb-false}
-use Rattle.write_bytes.specs.PushModel.{bytes_pushed, pushed_to, Pushes}
+-- Bytes that are pushed one part after the other are pushed at once; and what is copied at once is pushed.
+use Rattle.std.proofs.Common.{ℕ, zero, suc, ◌+◌, ◌-◌, ◌≤◌, ◌≡◌, min, List, [], ◌∷◌, ◌++◌, length, take, drop, refl, sym, ap, ◌∙◌, arith, append_assoc, add-zero, length-append}
+use Rattle.std.proofs.Math.Seq.{take-nil, take-append_seam, drop-append-add, drop-drop}
+use Rattle.std.proofs.lemmas.List.{take_min, length-take, length-drop, take-append-drop}
+use borrow.Rule.Slice.PartMut.{put_mid}
+use Rattle.write_bytes.specs.declared.Output.{Output}
+use Rattle.write_bytes.specs.PushModel.{fitting, bytes_pushed, pushed_to, Pushes}
+use Rattle.write_bytes.specs.OutputModel.{Pushed}
 
--- ---- nothing, no room, one byte
-module _ (old : List ℕ) (at : ℕ) where
-  pub pushed_none : bytes_pushed old at [] ≡ old
-  unfolding bytes_pushed
-  pushed_none = rw (take-nil {A = ℕ} (length old - at), add-zero at) (take-append-drop at old)
+-- the first bytes of two lists
+take_both : (k : ℕ) (a b : List ℕ) → take k (a ++ b) ≡ take k a ++ take (k - length a) b
+take_both zero a b = let e : zero - length a ≡ 0 = omega arith in rw e
+take_both (suc k) [] b = let e : suc k - 0 ≡ suc k = omega arith in rw e
+take_both (suc k) (x ∷ a) b = let e : suc k - suc (length a) ≡ k - length a = omega arith in rw e (ap (λ l. x ∷ l) (take_both k a b))
 
-  pub to_none : pushed_to old at [] ≡ at
-  unfolding pushed_to
-  to_none = rw (take-nil {A = ℕ} (length old - at)) (add-zero at)
+-- those that fit, in number
+fitting_length : (old : List ℕ) (at : ℕ) (new : List ℕ) → length (fitting old at new) ≡ min (length old - at) (length new)
+fitting_length old at new = length-take (length old - at) new
 
-  module _ (full : length old ≤ at) (new : List ℕ) where
-    none : length old - at ≡ 0
-    none = omega arith
-
-    pub pushed_full : bytes_pushed old at new ≡ old
-    unfolding bytes_pushed
-    pushed_full = rw (none, add-zero at) (take-append-drop at old)
-
-    pub to_full : pushed_to old at new ≡ at
-    unfolding pushed_to
-    to_full = rw none (add-zero at)
-
-  module _ (room : at < length old) (b : ℕ) (new : List ℕ) where
-    less : length old - at ≡ suc (length (set old at b) - (at + 1))
-    less = omega (arith, length-set old at b)
-
-    one_put : (fit : List ℕ) → take at old ++ (b ∷ fit ++ drop (at + suc (length fit)) old)
-        ≡ take (at + 1) (set old at b) ++ (fit ++ drop (at + 1 + length fit) (set old at b))
-    one_put fit =
-        let e : at + suc (length fit) ≡ at + 1 + length fit = omega arith in
-        rw (e, drop-set-lt (at + 1 + length fit) old at b (omega arith), add-one at, take-suc-set old at b room)
-        (sym (append_assoc (take at old) (b ∷ []) (fit ++ drop (suc at + length fit) old)))
-
-    pub pushed_one : bytes_pushed old at (b ∷ new) ≡ bytes_pushed (set old at b) (at + 1) new
-    unfolding bytes_pushed
-    pushed_one = rw less (one_put (take (length (set old at b) - (at + 1)) new))
-
-    pub to_one : pushed_to old at (b ∷ new) ≡ pushed_to (set old at b) (at + 1) new
-    unfolding pushed_to
-    to_one = rw less (omega arith)
-
--- ---- by induction on what is pushed: a relation of the buffer and the offset before, the bytes, and the buffer and the offset after
-module _ (P : List ℕ → ℕ → List ℕ → List ℕ → ℕ → Type 0)
-    (nothing : (old : List ℕ) (at : ℕ) → P old at [] old at)
-    (full : (old : List ℕ) (at : ℕ) (new : List ℕ) → length old ≤ at → P old at new old at)
-    (one : (old : List ℕ) (at b : ℕ) (new out : List ℕ) (to : ℕ) → at < length old → P (set old at b) (at + 1) new out to → P old at (b ∷ new) out to) where
-  by_bytes : (old : List ℕ) (at : ℕ) (new : List ℕ) → P old at new (bytes_pushed old at new) (pushed_to old at new)
-  by_bytes old at [] = rw (pushed_none old at, to_none old at) (nothing old at)
-  by_bytes old at (b ∷ new) = go (by_bytes (set old at b) (at + 1) new) (ltb at (length old)) refl
-    where
-      go : P (set old at b) (at + 1) new (bytes_pushed (set old at b) (at + 1) new) (pushed_to (set old at b) (at + 1) new)
-          → (t : Bool) → ltb at (length old) ≡ t → P old at (b ∷ new) (bytes_pushed old at (b ∷ new)) (pushed_to old at (b ∷ new))
-      go rest true e =
-          let room = ltb-true at (length old) e in
-          rw (pushed_one old at room b new, to_one old at room b new)
-          (one old at b new (bytes_pushed (set old at b) (at + 1) new) (pushed_to (set old at b) (at + 1) new) room rest)
-      go rest false e =
-          let h = ltb-false at (length old) e in
-          rw (pushed_full old at h (b ∷ new), to_full old at h (b ∷ new)) (full old at (b ∷ new) h)
-
-pub length_pushed : (old : List ℕ) (at : ℕ) (new : List ℕ) → length (bytes_pushed old at new) ≡ length old
-length_pushed =
-    by_bytes (λ old at new out to. length out ≡ length old) (λ old at. refl) (λ old at new h. refl)
-    (λ old at b new out to h e. e ∙ length-set old at b)
-
--- pushed in two parts
-module _ (more : List ℕ) where
-  pub pushed_more : (old : List ℕ) (at : ℕ) (new : List ℕ) → bytes_pushed (bytes_pushed old at new) (pushed_to old at new) more ≡ bytes_pushed old at (new ++ more)
-  pushed_more =
-      by_bytes (λ old at new out to. bytes_pushed out to more ≡ bytes_pushed old at (new ++ more)) (λ old at. refl)
-      (λ old at new h. pushed_full old at h more ∙ sym (pushed_full old at h (new ++ more)))
-      (λ old at b new out to h e. e ∙ sym (pushed_one old at h b (new ++ more)))
-
-  pub to_more : (old : List ℕ) (at : ℕ) (new : List ℕ) → pushed_to (bytes_pushed old at new) (pushed_to old at new) more ≡ pushed_to old at (new ++ more)
-  to_more =
-      by_bytes (λ old at new out to. pushed_to out to more ≡ pushed_to old at (new ++ more)) (λ old at. refl)
-      (λ old at new h. to_full old at h more ∙ sym (to_full old at h (new ++ more)))
-      (λ old at b new out to h e. e ∙ sym (to_one old at h b (new ++ more)))
-
--- ---- a push of nothing, and one push after the other
+-- ---- a push of nothing
 pub push_none : (old : List ℕ) (at : ℕ) → at ≤ length old → Pushes old at [] old at
-push_none old at h = (sym (pushed_none old at), sym (to_none old at), h)
+unfolding bytes_pushed pushed_to
+push_none old at h =
+    (rw (take-nil {A = ℕ} (length old - at), add-zero at) (sym (take-append-drop at old)), rw (take-nil {A = ℕ} (length old - at)) (sym (add-zero at)), h)
+
+-- ---- one push after the other
+module _ (old new more : List ℕ) (at : ℕ) (inside : at ≤ length old) where
+  abbrev fit : List ℕ
+  fit = fitting old at new
+
+  abbrev front : List ℕ
+  front = take at old ++ fit
+
+  front_length : length front ≡ at + length fit
+  front_length = omega (arith, length-append (take at old) fit, length-take at old)
+
+  fits_both : fitting old at (new ++ more) ≡ fit ++ fitting old (at + length fit) more
+  fits_both =
+      let e : length old - at - length new ≡ length old - (at + length fit) = omega (arith, fitting_length old at new) in
+      take_both (length old - at) new more ∙ rw e
+
+  -- what is left of the buffer past its front
+  abbrev filled : List ℕ
+  filled = take at old ++ (fit ++ drop (at + length fit) old)
+
+  filled_is : filled ≡ front ++ drop (length front) old
+  filled_is = rw front_length (sym (append_assoc (take at old) fit (drop (at + length fit) old)))
+
+  filled_length : length filled ≡ length old
+  filled_length =
+      ap length filled_is
+      ∙ omega (arith, length-append front (drop (length front) old), length-drop (length front) old, front_length, fitting_length old at new)
+
+  front_of : take (at + length fit) filled ≡ front
+  front_of = ap (take (at + length fit)) filled_is ∙ rw (← front_length) (take-append_seam front (drop (length front) old))
+
+  past : (n : ℕ) → drop (at + length fit + n) filled ≡ drop (at + length fit + n) old
+  past n =
+      ap (drop (at + length fit + n)) filled_is
+      ∙ rw (← front_length) (drop-append-add front (drop (length front) old) n ∙ drop-drop n (length front) old)
+
+  pub pushed_more : bytes_pushed (bytes_pushed old at new) (pushed_to old at new) more ≡ bytes_pushed old at (new ++ more)
+  unfolding bytes_pushed pushed_to
+  pushed_more =
+      let rest : List ℕ = fitting old (at + length fit) more in
+      let to : at + length fit + length rest ≡ at + (length fit + length rest) = omega arith in
+      rw (filled_length, front_of, past (length rest), fits_both, length-append fit rest, append_assoc fit rest, ← to)
+      (append_assoc (take at old) fit (rest ++ drop (at + length fit + length rest) old))
+
+  pub to_more : pushed_to (bytes_pushed old at new) (pushed_to old at new) more ≡ pushed_to old at (new ++ more)
+  unfolding bytes_pushed pushed_to
+  to_more = rw (filled_length, fits_both, length-append fit (fitting old (at + length fit) more)) (omega arith)
 
 pub push_more : (old : List ℕ) (at : ℕ) (new more : List ℕ) {mid out : List ℕ} {to end : ℕ}
-    → Pushes old at new mid to → Pushes mid to more out end → Pushes old at (new ++ more) out end
-push_more old at new more p q =
-    (q.0 ∙ rw (p.0, p.1) (pushed_more more old at new), q.1 ∙ rw (p.0, p.1) (to_more more old at new), q.2)
+    → at ≤ length old → Pushes old at new mid to → Pushes mid to more out end → Pushes old at (new ++ more) out end
+push_more old at new more h p q =
+    (q.0 ∙ rw (p.0, p.1) (pushed_more old new more at h), q.1 ∙ rw (p.0, p.1) (to_more old new more at h), q.2)
+
+-- ---- a push at once: n bytes, as many as fit, are copied over those from `at` on
+module _ (old new : List ℕ) (at n : ℕ) (inside : at ≤ length old) (fit : n ≡ min (length old - at) (length new)) where
+  copied : take n new ≡ fitting old at new
+  copied = rw fit (take_min (length old - at) new)
+
+  many : n ≡ length (fitting old at new)
+  many = fit ∙ sym (fitting_length old at new)
+
+  pub push_copied : (k : ℕ) (ys : List ℕ) → k ≡ n → ys ≡ take n new → Pushes old at new (put_mid at k old ys) (at + n)
+  unfolding bytes_pushed pushed_to
+  push_copied k ys e q =
+      let size : length ys ≡ n = ap length q ∙ omega (arith, length-take n new, fit) in (
+        rw (e, q, copied, drop-drop n at old, many),
+        ap (λ m. at + m) many,
+        omega (arith, e, size, length-append (take at old) (ys ++ drop k (drop at old)), length-append ys (drop k (drop at old)), length-drop k (drop at old), length-drop at old, length-take at old, fit),
+      )
+
+-- ---- of an output
+pub pushed_nothing : (o : Output) → Pushed o [] o
+pushed_nothing o = record { pushes = push_none o.bytes.now o.len o.inside; same_buffer = refl }
+
+pub pushed_then : {a b c : Output} {new more : List ℕ} → Pushed a new b → Pushed b more c → Pushed a (new ++ more) c
+pushed_then {a} {new} {more} p q = record {
+  pushes = push_more a.bytes.now a.len new more a.inside p.pushes q.pushes;
+  same_buffer = q.same_buffer ∙ p.same_buffer;
+}

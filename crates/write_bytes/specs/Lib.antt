@@ -1,2 +1,3 @@
--- Bytes pushed to a buffer.
+-- Bytes pushed to a buffer, and to an output.
 pub mod PushModel
+pub mod OutputModel

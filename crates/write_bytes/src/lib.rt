@@ -1,61 +1,74 @@
 // Bytes written to a buffer one after the other, as many as there is room for; numbers in decimal.
 #![tactic(auto)]
 
-ghost use Rattle.std.specs.Prelude.{◌≡◌, [], ◌∷◌, ◌≤◌, ◌%◌, length};
-ghost use Rattle.spec_text.specs.Writing.{digits, decimal_of};
-ghost use Rattle.write_bytes.specs.PushModel.{Pushes};
+ghost use Rattle.std.specs.Prelude.{◌≤◌, length};
 
-// Pushes bytes to a buffer that is filled up to an offset, as many as there is room for; answers how far it is filled.
-pub fn push(out: &mut [u8], at: usize, bytes: &[u8]) -> usize
-    requires { at ≤ length out.old }
-    ensures { Pushes out.old at bytes.now out.new result }
-{
-    let mut i = 0;
-    let mut to = at;
-    while i < bytes.len() && to < out.len() {
-        out[to] = bytes[i];
-        i += 1;
-        to += 1;
+// A buffer that is filled from its start, so far.
+#[derive(Drop)]
+pub struct Output<'a> {
+    bytes: &'a mut [u8],
+    len: usize,
+    ghost inside: { len ≤ length bytes.now },
+}
+
+impl<'a> Output<'a> {
+    ghost use Rattle.std.specs.Prelude.{◌≡◌, [], ◌∷◌};
+    ghost use Rattle.spec_text.specs.Writing.{digits, decimal_of};
+    ghost use Rattle.write_bytes.specs.OutputModel.{Pushed};
+
+    // An output to a buffer, with nothing pushed yet.
+    pub fn new(bytes: &'a mut [u8]) -> Output<'a>
+        ensures same_buffer { result.bytes.ghost_name ≡ bytes.entry.ghost_name }
+        ensures same_bytes { result.bytes.now ≡ bytes.old }
+        ensures empty { result.len ≡ 0 }
+    {
+        Output { bytes, len: 0 }
     }
-    to
-}
 
-// A digit, as a byte.
-fn narrow(n: usize) -> u8
-    ensures { result ≡ n % 256 }
-{
-    (n % 256) as u8
-}
-
-// Pushes one byte.
-pub fn push_byte(out: &mut [u8], at: usize, b: u8) -> usize
-    requires { at ≤ length out.old }
-    ensures { Pushes out.old at (b ∷ []) out.new result }
-{
-    let one = [b; 1];
-    push(out, at, &one)
-}
-
-// Pushes a number of at most so many digits.
-pub fn push_digits(out: &mut [u8], at: usize, left: usize, n: usize) -> usize
-    requires { at ≤ length out.old }
-    ensures { Pushes out.old at (digits left n) out.new result }
-{
-    if left == 0 {
-        return at;
+    // How many bytes are pushed.
+    pub fn len(&self) -> usize
+        ensures { result ≡ self.now.len }
+    {
+        self.len
     }
-    if n < 10 {
-        return push_byte(out, at, narrow(48 + n));
-    }
-    let to = push_digits(out, at, left - 1, n / 10);
-    push_byte(out, to, narrow(48 + n % 10))
-}
 
-// Pushes a tab and a number.
-pub fn push_number(out: &mut [u8], at: usize, n: usize) -> usize
-    requires { at ≤ length out.old }
-    ensures { Pushes out.old at (9 ∷ decimal_of n) out.new result }
-{
-    let to = push(out, at, b"\t");
-    push_digits(out, to, 10, n)
+    // Pushes bytes, as many as there is room for.
+    pub fn push(&mut self, bytes: &[u8])
+        ensures { Pushed self.old bytes.now self.new }
+    {
+        let fit = (self.bytes.len() - self.len).min(bytes.len());
+        self.bytes[self.len..self.len + fit].copy_from_slice(&bytes[..fit]);
+        self.len += fit;
+    }
+
+    // Pushes one byte.
+    pub fn push_byte(&mut self, b: u8)
+        ensures { Pushed self.old (b ∷ []) self.new }
+    {
+        self.push(&[b]);
+    }
+
+    // Pushes a number of at most so many digits.
+    // Kept: of `write!` a contract says what it wrote only to a String, on the heap; and Display writes any number of digits.
+    fn push_digits(&mut self, left: usize, n: usize)
+        ensures { Pushed self.old (digits left n) self.new }
+    {
+        if left == 0 {
+            return;
+        }
+        if n < 10 {
+            self.push_byte(b'0' + n as u8);
+            return;
+        }
+        self.push_digits(left - 1, n / 10);
+        self.push_byte(b'0' + (n % 10) as u8);
+    }
+
+    // Pushes a tab and a number.
+    pub fn push_number(&mut self, n: usize)
+        ensures { Pushed self.old (9 ∷ decimal_of n) self.new }
+    {
+        self.push_byte(b'\t');
+        self.push_digits(10, n);
+    }
 }

@@ -12,9 +12,7 @@ pub fn write_records(text: &[u8], work: &[u32], out: &mut [u32], count: usize)
     requires { (7 * count ≤ length out.old) × (count < 4294967296) }
     ensures { out.new ≡ over (records_of text.now work.now 0 count) out.old }
 {
-    let mut j = 0;
-    while j < count {
+    for j in 0..count {
         report_records::put_record(out, RECORD * j, find_faults::record_at(text, work, j));
-        j += 1;
     }
 }

@@ -1,0 +1,32 @@
+-- One row more, and none.
+use Rattle.std.proofs.Common.{◌≡◌, ap, arith}
+use Rattle.report_order.specs.declared.Around.{Around}
+use Rattle.report_order.proofs.Stored.{left_all}
+use Rattle.report_order.proofs.AtRow.{class_few, placed_few, entries_more, entries_end}
+use Rattle.report_order.proofs.list.Entries.list_rows.Goals as goal
+
+pub loop-p-init : goal.loop-p-init
+loop-p-init c = record { few = omega arith; class = omega arith; left = left_all _ _ }
+
+pub list_row-requires : goal.list_row-requires
+list_row-requires c =
+    let l = c.loop-p in
+    let n = c.next_around-next in
+    let e : n.result.class ≡ _ = ap (λ (y : Around). y.class) n.ensures in record {
+      few = omega arith;
+      rows = (omega arith, omega (arith, e, class_few l.self.work.now l.x l.p (omega arith) l.invariant.class));
+      class_around = e;
+    }
+
+pub loop-p-preserved : goal.loop-p-preserved
+loop-p-preserved c =
+    let h = c.list_row.ensures in
+    let l = c.loop-p in
+    let n = c.next_around-next in record {
+      few = omega (arith, h.count, placed_few l.self.work.now l.p l.x, l.invariant.few);
+      class = omega (arith, ap (λ (y : Around). y.class) n.ensures, class_few l.self.work.now l.x l.p (omega arith) l.invariant.class);
+      left = entries_more l.self l.x l.p c.args.rows l.invariant.left c.loop-p-test.true c.requires.rows n.ensures h;
+    }
+
+pub returns : goal.returns
+returns c = entries_end c.loop-p.self c.loop-p.x c.loop-p.p c.args.rows c.loop-p.invariant.left c.loop-p-test.false

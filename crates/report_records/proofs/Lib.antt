@@ -1,2 +1,0 @@
--- The proofs about records.
-mod SevenStores
