@@ -124,17 +124,13 @@ fn call(rt: &impl Print, frame: Frame, text: &[u8], buffers: &mut Buffers) -> io
     }
 }
 
-fn run(rt: &impl Print, all: &[u8]) -> io::Result<()> {
+fn main(rt: HostRuntime) -> io::Result<()> {
     let mut buffers = Buffers {
         work: &mut [0; 16400],
         out: &mut [0; 16400],
         bytes: &mut [0; 512],
     };
-    test_frames::replay(all, |frame, text| call(rt, frame, text, &mut buffers))
-}
-
-fn main(rt: HostRuntime) -> io::Result<()> {
-    let mut all = [0u8; 262144];
-    let n = program_input::read_full(&mut rt.reader(), &mut all)?;
-    run(&rt, &all[..n])
+    test_frames::replay(&mut rt.reader(), |frame, text| {
+        call(&rt, frame, text, &mut buffers)
+    })
 }

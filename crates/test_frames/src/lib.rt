@@ -7,6 +7,7 @@ ghost use Rattle.std.specs.Int.{from_le_bytes, w32};
 ghost use Rattle.test_frames.specs.Texts.{Held};
 
 use std::io;
+use std::io::Read;
 use std::marker::Model;
 
 // A frame: a letter and two numbers.
@@ -100,14 +101,19 @@ impl<'a> Text<'a> {
     }
 }
 
-// Runs the calls of the frames, each on the text that the frames before it made: t, these bytes; r, copies of these
-// bytes more. Any other letter is a call's.
-pub fn replay<F: FnMut(Frame, &[u8]) -> io::Result<()>>(all: &[u8], mut call: F) -> io::Result<()>
+// Reads frames to their end and runs the calls, each on the text that the frames before it made: t, these bytes; r,
+// copies of these bytes more. Any other letter is a call's.
+pub fn replay<R: Read, F: FnMut(Frame, &[u8]) -> io::Result<()>>(
+    from: &mut R,
+    mut call: F,
+) -> io::Result<()>
     requires { F.IsAlwaysCallable call }
 {
+    let mut all = [0u8; 262144];
+    let n = program_input::read_full(from, &mut all)?;
     let mut buffer = [0u8; 70000];
     let mut text = Text::new(&mut buffer);
-    let mut rest = all;
+    let mut rest = &all[..n];
     while let Some((frame, after)) = first_frame(rest) {
         rest = after;
         match frame.letter {

@@ -63,23 +63,30 @@ fn sum_of(work: &[u32], lines: usize) -> u32 {
     sum
 }
 
-// Reads a text and writes what came out.
-fn read(rt: &impl Print, text: &[u8], work: &mut [u32], all_rows: bool) -> io::Result<()> {
+// Reads a text, writes what came out, and answers how many rows there are.
+fn read(rt: &impl Print, text: &[u8], work: &mut [u32]) -> io::Result<usize> {
     work.fill(u32::MAX);
     match read_tree::read_tree(text, work) {
         Read::Tree { globals, lines } => {
             let sum = sum_of(work, lines);
             println!(rt; "tree\t{globals}\t{lines}\t{sum}")?;
-            if all_rows {
-                for i in 0..lines.min(4096) {
-                    let row = Row::at(work, i);
-                    println!(rt; "{row}")?;
-                }
-            }
-            Ok(())
+            Ok(lines)
         }
-        Read::Refused { number, line } => println!(rt; "refused\t{number}\t{line}"),
+        Read::Refused { number, line } => {
+            println!(rt; "refused\t{number}\t{line}")?;
+            Ok(0)
+        }
     }
+}
+
+// The text, with all rows.
+fn whole(rt: &impl Print, text: &[u8], work: &mut [u32]) -> io::Result<()> {
+    let lines = read(rt, text, work)?;
+    for i in 0..lines.min(4096) {
+        let row = Row::at(work, i);
+        println!(rt; "{row}")?;
+    }
+    Ok(())
 }
 
 // The first a bytes of the text, and its bytes from b on.
@@ -88,7 +95,8 @@ fn joined(rt: &impl Print, text: &[u8], a: usize, b: usize, work: &mut [u32]) ->
     let mut other = Text::new(&mut bytes);
     other.push(test_frames::part(text, a).0);
     other.push(test_frames::part(text, b).1);
-    read(rt, other.as_slice(), work, false)
+    read(rt, other.as_slice(), work)?;
+    Ok(())
 }
 
 // The text with another byte at i.
@@ -97,27 +105,25 @@ fn changed(rt: &impl Print, text: &[u8], i: usize, v: usize, work: &mut [u32]) -
     let mut other = Text::new(&mut bytes);
     other.push(text);
     other.set(i, (v % 256) as u8);
-    read(rt, other.as_slice(), work, false)
+    read(rt, other.as_slice(), work)?;
+    Ok(())
 }
 
 // Runs a call.
 fn call(rt: &impl Print, frame: Frame, text: &[u8], work: &mut [u32]) -> io::Result<()> {
     let Frame { letter, a, b } = frame;
     match letter {
-        b'w' if a <= work.len() => read(rt, text, &mut work[..a], true),
+        b'w' if a <= work.len() => whole(rt, text, &mut work[..a]),
         b'w' => Ok(()),
         b'j' => joined(rt, text, a, b, work),
         _ => changed(rt, text, a, b, work),
     }
 }
 
-fn run(rt: &impl Print, all: &[u8]) -> io::Result<()> {
-    let mut work = [0u32; 16384];
-    test_frames::replay(all, |frame, text| call(rt, frame, text, &mut work))
-}
-
 fn main(rt: HostRuntime) -> io::Result<()> {
-    let mut all = [0u8; 262144];
-    let n = program_input::read_full(&mut rt.reader(), &mut all)?;
-    run(&rt, &all[..n])
+    let mut work = [0u32; 16384];
+    test_frames::replay(
+        &mut rt.reader(),
+        |frame, text| call(&rt, frame, text, &mut work),
+    )
 }
