@@ -14,6 +14,7 @@ pub fn read_full<R: Read>(from: &mut R, to: &mut [u8]) -> io::Result<usize>
     ensures end { IfOk result (λ n. n < length to.new → IsAtEnd (R.remaining from.new)) }
 {
     let mut done = 0;
+    // Kept: no plainer as a `for`, which would count reads where the loop goes by the bytes that they gave.
     while done < to.len() {
         let n = from.read(&mut to[done..])?;
         if n == 0 {

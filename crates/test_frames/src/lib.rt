@@ -1,137 +1,151 @@
-// What the replay programs share: frames of numbers and bytes from standard input, buffers filled and copied, sums, and lines written.
+// What the replay programs share: the frames of standard input, the text that they make in a buffer, and sums.
 #![tactic(auto)]
 
-ghost use Rattle.std.specs.Prelude.{◌≤◌, ◌<◌, length};
+ghost use Rattle.std.specs.Prelude.{◌≡◌, ℕ, [], ◌+◌, ◌-◌, ◌*◌, ◌%◌, ◌<◌, ◌≤◌, ◌++◌, MatchOption, length, take, drop, get_or, slice_set};
+ghost use Rattle.std.specs.List.{fold};
+ghost use Rattle.std.specs.Int.{from_le_bytes, w32};
+ghost use Rattle.test_frames.specs.Texts.{Held};
 
 use std::io;
+use std::io::Read;
+use std::marker::Model;
 
-// The letters of the frames that make a text: t, these bytes; r, copies of these bytes more.
-pub const TEXT: usize = 116;
-
-pub const REPEAT: usize = 114;
-
-// Where the next frame is, and how long the text is.
+// A frame: a letter and two numbers.
 #[derive(Clone, Copy)]
-pub struct Step {
-    pub at: usize,
-    pub len: usize,
+pub struct Frame {
+    pub letter: u8,
+    pub a: usize,
+    pub b: usize,
 }
 
-fn of_byte(b: u8) -> usize
-    ensures { result < 256 }
+// The number in the first four bytes, the low byte first, and the bytes after it.
+pub fn number(bytes: &[u8]) -> Option<(usize, &[u8])>
+    ensures { MatchOption result (length bytes.now < 4) (λ r. (r.0 < 4294967296) × (r.0 ≡ from_le_bytes w32 (take 4 bytes.now)) × (r.1.now ≡ drop 4 bytes.now) × (length r.1.now + 4 ≡ length bytes.now)) }
 {
-    b as usize
+    let (four, rest) = bytes.split_first_chunk::<4>()?;
+    Some((u32::from_le_bytes(*four) as usize, rest))
 }
 
-pub fn wide(n: u32) -> usize
-    ensures { result < 4294967296 }
+// The first n bytes, or as many as there are, and the bytes after them.
+pub fn part(bytes: &[u8], n: usize) -> (&[u8], &[u8])
+    ensures first { result.0.now ≡ take n bytes.now }
+    ensures after { result.1.now ≡ drop n bytes.now }
+    ensures after_len { length result.1.now ≤ length bytes.now }
 {
-    n as usize
+    bytes.split_at(bytes.len().min(n))
 }
 
-pub fn byte_at(all: &[u8], at: usize) -> usize
-    ensures { result < 256 }
+// The first frame, and the bytes after it.
+fn first_frame(bytes: &[u8]) -> Option<(Frame, &[u8])>
+    ensures { MatchOption result (length bytes.now < 9) (λ r. (r.0.letter ≡ get_or bytes.now 0 0) × (r.0.a ≡ from_le_bytes w32 (take 4 (drop 1 bytes.now))) × (r.0.b ≡ from_le_bytes w32 (take 4 (drop 5 bytes.now))) × (length r.1.now + 9 ≡ length bytes.now)) }
 {
-    if at < all.len() { of_byte(all[at]) } else { 0 }
+    let (letter, rest) = bytes.split_first()?;
+    let (a, rest) = number(rest)?;
+    let (b, rest) = number(rest)?;
+    let letter = *letter;
+    Some((Frame { letter, a, b }, rest))
 }
 
-// The number in the four bytes at an offset.
-pub fn number(all: &[u8], at: usize) -> usize
-    requires { at < 8589934592 }
-    ensures { result < 4294967296 }
-{
-    byte_at(all, at)
-        + 256 * byte_at(all, at + 1)
-        + 65536 * byte_at(all, at + 2)
-        + 16777216 * byte_at(all, at + 3)
+// A text at the start of a buffer.
+#[derive(Drop)]
+pub struct Text<'a> {
+    bytes: &'a mut [u8],
+    len: usize,
 }
 
-pub fn least(a: usize, b: usize) -> usize
-    ensures { (result ≤ a) × (result ≤ b) }
-{
-    if a < b { a } else { b }
+impl<'a> Model for Text<'a> {
+    ghost Value = { Held };
+
+    ghost view = { λ t. record { bytes = take t.len t.bytes.now; room = length t.bytes.now - t.len } };
+
+    ghost invariant = { λ t. t.len ≤ length t.bytes.now };
 }
 
-// Copies bytes from an offset to another, and answers where the next go.
-pub fn copy(from: &[u8], at: usize, end: usize, to: &mut [u8], start: usize) -> usize
-    ensures { result ≤ length to.new }
-{
-    let stop = least(end, from.len());
-    let mut i = at;
-    let mut k = least(start, to.len());
-    while i < stop && k < to.len() {
-        to[k] = from[i];
-        i += 1;
-        k += 1;
+impl<'a> Text<'a> {
+    pub fn new(bytes: &'a mut [u8]) -> Text<'a>
+        ensures empty { result.bytes ≡ [] }
+        ensures all_free { result.room ≡ length bytes.old }
+    {
+        Text { bytes, len: 0 }
     }
-    k
+
+    pub fn clear(&mut self)
+        ensures { self.new.bytes ≡ [] }
+    {
+        self.len = 0;
+    }
+
+    // As many of the bytes more as there is room for.
+    pub fn push(&mut self, more: &[u8])
+        ensures { self.new.bytes ≡ self.old.bytes ++ take self.old.room more.now }
+    {
+        let n = more.len().min(self.bytes.len() - self.len);
+        self.bytes[self.len..self.len + n].copy_from_slice(&more[..n]);
+        self.len += n;
+    }
+
+    // Another byte at i, if the text has one there.
+    pub fn set(&mut self, i: usize, byte: u8)
+        ensures set { i < length self.old.bytes → self.new.bytes ≡ slice_set self.old.bytes i byte }
+        ensures past { length self.old.bytes ≤ i → self.new.bytes ≡ self.old.bytes }
+    {
+        if i < self.len {
+            self.bytes[i] = byte;
+        }
+    }
+
+    pub fn as_slice(&self) -> &[u8]
+        ensures { result.now ≡ self.now.bytes }
+    {
+        &self.bytes[..self.len]
+    }
 }
 
-// Copies bytes several times.
-pub fn copies(
-    from: &[u8],
-    at: usize,
-    end: usize,
-    times: usize,
-    to: &mut [u8],
-    start: usize,
-) -> usize
-    ensures { result ≤ length to.new }
+// Reads frames to their end and runs the calls, each on the text that the frames before it made: t, these bytes; r,
+// copies of these bytes more. Any other letter is a call's.
+pub fn replay<R: Read, F: FnMut(Frame, &[u8]) -> io::Result<()>>(
+    from: &mut R,
+    mut call: F,
+) -> io::Result<()>
+    requires { F.IsAlwaysCallable call }
 {
-    let mut k = copy(from, at, at, to, start);
-    let mut i = 0;
-    while i < times {
-        k = copy(from, at, end, to, k);
-        i += 1;
+    let mut all = [0u8; 262144];
+    let n = program_input::read_full(from, &mut all)?;
+    let mut buffer = [0u8; 70000];
+    let mut text = Text::new(&mut buffer);
+    let mut rest = &all[..n];
+    while let Some((frame, after)) = first_frame(rest) {
+        rest = after;
+        match frame.letter {
+            b't' => {
+                let (bytes, next) = part(after, frame.b);
+                text.clear();
+                text.push(bytes);
+                rest = next;
+            }
+            b'r' => {
+                let (bytes, next) = part(after, frame.b);
+                for _ in 0..frame.a {
+                    text.push(bytes);
+                }
+                rest = next;
+            }
+            _ => call(frame, text.as_slice())?,
+        }
     }
-    k
-}
-
-// Fills a buffer.
-pub fn fill(work: &mut [u32], value: u32) {
-    let mut i = 0;
-    while i < work.len() {
-        work[i] = value;
-        i += 1;
-    }
-}
-
-pub fn say(rt: &impl Print, bytes: &[u8]) -> io::Result<()> {
-    rt.write_all(bytes)
-}
-
-pub fn put(rt: &impl Print, n: usize, after: &[u8]) -> io::Result<()> {
-    rt.print(n)?;
-    say(rt, after)
+    Ok(())
 }
 
 // One number more in a sum of 32 bits.
-pub fn summed(sum: usize, n: usize) -> usize
-    requires { sum < 4294967296 }
-    ensures { result < 4294967296 }
+pub fn summed(sum: u32, n: u32) -> u32
+    ensures { result ≡ (sum * 31 + n) % 4294967296 }
 {
-    (sum * 31 + n % 4294967296) % 4294967296
+    sum.wrapping_mul(31).wrapping_add(n)
 }
 
-pub fn store(to: &mut [u8], i: usize, v: usize) {
-    if i < to.len() {
-        to[i] = (v % 256) as u8;
-    }
-}
-
-// The first n bytes of the text.
-pub fn first(text: &[u8], n: usize) -> &[u8] {
-    if n <= text.len() {
-        &text[0..n]
-    } else {
-        &text[0..0]
-    }
-}
-
-// Where the next length stands, after the one at an offset and so many bytes.
-pub fn past(at: usize, len: usize) -> usize
-    requires { (at < 4294967296) × (len < 4294967296) }
-    ensures { at < result }
+// A sum over numbers or bytes.
+pub fn sum_of<T: Copy + Into<u32>>(items: &[T]) -> u32
+    ensures { (value : T → ℕ) → ((x : T) (n : ℕ) → T.converts x n → n ≡ value x) → result ≡ fold (λ sum x. (sum * 31 + value x) % 4294967296) 0 items.now }
 {
-    at + 4 + len
+    items.iter().fold(0, |sum, x| summed(sum, (*x).into()))
 }

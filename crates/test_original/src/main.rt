@@ -5,69 +5,57 @@
 // compiled unchanged, the lines that are expected, refusals from a plain parser: `bash oracle/run.sh PATH vectors crates/test_original 1`.
 #![tactic(auto)]
 
-ghost use Rattle.std.specs.Prelude.{◌<◌, IfOk};
-
 use report_records::Record;
-use serduzhap::{CheckResult, MessageResult};
 use std::io;
 
-// The words of the first fault.
-fn say_message(rt: &impl Print, text: &[u8], work: &mut [u32], bytes: &mut [u8]) -> io::Result<()> {
-    match serduzhap::message(text, work, 0, bytes) {
-        MessageResult::Written { len } => test_frames::say(rt, test_frames::first(bytes, len)),
-        _ => test_frames::say(rt, b"no message"),
-    }
-}
-
-fn say_fault(
+// Writes the words of the first fault.
+fn print_message(
     rt: &impl Print,
-    r: Record,
     text: &[u8],
     work: &mut [u32],
     bytes: &mut [u8],
 ) -> io::Result<()> {
-    test_frames::put(rt, r.kind.number(), b"\t")?;
-    test_frames::put(rt, test_frames::wide(r.start), b"\t")?;
-    test_frames::put(rt, test_frames::wide(r.end), b"\t")?;
-    say_message(rt, text, work, bytes)?;
-    test_frames::say(rt, b"\n")
+    match serduzhap::message(text, work, 0, bytes) {
+        Ok(len) => rt.write_all(test_frames::part(bytes, len).0),
+        Err(_) => print!(rt; "no message"),
+    }
+}
+
+fn print_fault(
+    rt: &impl Print,
+    fault: Record,
+    text: &[u8],
+    work: &mut [u32],
+    bytes: &mut [u8],
+) -> io::Result<()> {
+    let Record { start, end, .. } = fault;
+    let kind = fault.kind.number();
+    print!(rt; "{kind}\t{start}\t{end}\t")?;
+    print_message(rt, text, work, bytes)?;
+    println!(rt; "")
 }
 
 // Checks a text and writes its line.
 fn check(rt: &impl Print, text: &[u8], work: &mut [u32], bytes: &mut [u8]) -> io::Result<()> {
     match serduzhap::check(text, work) {
-        CheckResult::Accepted => test_frames::say(rt, b"accepted\n"),
-        CheckResult::Faulty { record } => say_fault(rt, record, text, work, bytes),
-        CheckResult::Refused { number, line } => {
-            test_frames::say(rt, b"refused\t")?;
-            test_frames::put(rt, number, b"\t")?;
-            test_frames::put(rt, line, b"\n")
+        Ok(None) => println!(rt; "accepted"),
+        Ok(Some(fault)) => print_fault(rt, fault, text, work, bytes),
+        Err(refused) => {
+            let number = refused.why.number();
+            let line = refused.line;
+            println!(rt; "refused\t{number}\t{line}")
         }
     }
 }
 
-// Checks the text whose length stands at an offset, and answers where the next one's does.
-fn step(
-    rt: &impl Print,
-    all: &[u8],
-    at: usize,
-    work: &mut [u32],
-    bytes: &mut [u8],
-) -> io::Result<usize>
-    requires { at < 4294967296 }
-    ensures { IfOk result (λ next. at < next) }
-{
-    let len = test_frames::number(all, at);
-    check(rt, read_bytes::part(all, at + 4, len), work, bytes)?;
-    Ok(test_frames::past(at, len))
-}
-
 fn run(rt: &impl Print, all: &[u8]) -> io::Result<()> {
-    let mut work = [4294967295u32; 16384];
+    let mut work = [u32::MAX; 16384];
     let mut bytes = [0u8; 512];
-    let mut at = 0;
-    while at < all.len() && at < 4294967296 {
-        at = step(rt, all, at, &mut work, &mut bytes)?;
+    let mut rest = all;
+    while let Some((len, after)) = test_frames::number(rest) {
+        let (text, after) = test_frames::part(after, len);
+        check(rt, text, &mut work, &mut bytes)?;
+        rest = after;
     }
     Ok(())
 }
@@ -75,5 +63,5 @@ fn run(rt: &impl Print, all: &[u8]) -> io::Result<()> {
 fn main(rt: HostRuntime) -> io::Result<()> {
     let mut all = [0u8; 262144];
     let n = program_input::read_full(&mut rt.reader(), &mut all)?;
-    run(&rt, &all[0..n])
+    run(&rt, &all[..n])
 }

@@ -8,152 +8,122 @@
 // The work buffer is filled with 4,294,967,295 before each.
 #![tactic(auto)]
 
-ghost use Rattle.std.specs.Prelude.{◌+◌, ◌<◌, IfOk};
+ghost use Rattle.std.specs.Prelude.{◌<◌};
 
 use read_tree::Read;
-use std::io;
-use test_frames::Step;
+use std::{fmt, io};
+use test_frames::{Frame, Text};
 
-// The letters of runs: w and j; any other is b.
-const WHOLE: usize = 119;
+// What a row says: its kind, the lines below it, its offset, and the number of its name.
+#[derive(Drop)]
+struct Row {
+    kind: usize,
+    lines_below: usize,
+    offset: usize,
+    number: usize,
+}
 
-const JOINED: usize = 106;
+impl fmt::Display for Row {
+    fn fmt<W: fmt::Write>(&self, f: &mut fmt::Formatter<W>) -> fmt::Result {
+        let Row {
+            kind,
+            lines_below,
+            offset,
+            number,
+        } = self;
+        write!(f, "{kind}\t{lines_below}\t{offset}\t{number}")
+    }
+}
+
+impl Row {
+    fn at(work: &[u32], i: usize) -> Row
+        requires { i < 4096 }
+    {
+        Row {
+            kind: work_rows::kind(work, i),
+            lines_below: work_rows::lines_below(work, i),
+            offset: work_rows::offset(work, i),
+            number: work_rows::number(work, i),
+        }
+    }
+
+    fn numbers(&self) -> [usize; 4] {
+        [self.kind, self.lines_below, self.offset, self.number]
+    }
+}
 
 // A sum over the rows.
-fn sum_of(work: &[u32], lines: usize) -> usize {
-    let mut sum: usize = 0;
-    let mut i = 0;
-    let end = test_frames::least(lines, 4096);
-    while i < end {
-        sum = test_frames::summed(sum, work_rows::kind(work, i));
-        sum = test_frames::summed(sum, work_rows::lines_below(work, i));
-        sum = test_frames::summed(sum, work_rows::offset(work, i));
-        sum = test_frames::summed(sum, work_rows::number(work, i));
-        i += 1;
+fn sum_of(work: &[u32], lines: usize) -> u32 {
+    let mut sum = 0;
+    for i in 0..lines.min(4096) {
+        for n in Row::at(work, i).numbers() {
+            sum = test_frames::summed(sum, (n % 4294967296) as u32);
+        }
     }
     sum
 }
 
-// All rows: kind, lines below, offset, and the number of the name.
-fn show(rt: &impl Print, work: &[u32], lines: usize) -> io::Result<()> {
-    let mut i = 0;
-    let end = test_frames::least(lines, 4096);
-    while i < end {
-        test_frames::put(rt, work_rows::kind(work, i), b"\t")?;
-        test_frames::put(rt, work_rows::lines_below(work, i), b"\t")?;
-        test_frames::put(rt, work_rows::offset(work, i), b"\t")?;
-        test_frames::put(rt, work_rows::number(work, i), b"\n")?;
-        i += 1;
-    }
-    Ok(())
-}
-
-// Reads a text and writes what came out.
-fn run(rt: &impl Print, text: &[u8], work: &mut [u32], all_rows: bool) -> io::Result<()> {
-    test_frames::fill(work, 4294967295);
+// Reads a text, writes what came out, and answers how many rows there are.
+fn read(rt: &impl Print, text: &[u8], work: &mut [u32]) -> io::Result<usize> {
+    work.fill(u32::MAX);
     match read_tree::read_tree(text, work) {
         Read::Tree { globals, lines } => {
-            test_frames::say(rt, b"tree\t")?;
-            test_frames::put(rt, globals, b"\t")?;
-            test_frames::put(rt, lines, b"\t")?;
-            test_frames::put(rt, sum_of(work, lines), b"\n")?;
-            if all_rows {
-                show(rt, work, lines)?;
-            }
-            Ok(())
+            let sum = sum_of(work, lines);
+            println!(rt; "tree\t{globals}\t{lines}\t{sum}")?;
+            Ok(lines)
         }
         Read::Refused { number, line } => {
-            test_frames::say(rt, b"refused\t")?;
-            test_frames::put(rt, number, b"\t")?;
-            test_frames::put(rt, line, b"\n")
+            println!(rt; "refused\t{number}\t{line}")?;
+            Ok(0)
         }
     }
 }
 
-// The text, with n numbers to work in.
-fn whole(rt: &impl Print, text: &[u8], work: &mut [u32], n: usize) -> io::Result<()> {
-    if n <= work.len() {
-        run(rt, text, &mut work[0..n], true)?;
+// The text, with all rows.
+fn whole(rt: &impl Print, text: &[u8], work: &mut [u32]) -> io::Result<()> {
+    let lines = read(rt, text, work)?;
+    for i in 0..lines.min(4096) {
+        let row = Row::at(work, i);
+        println!(rt; "{row}")?;
     }
     Ok(())
 }
 
 // The first a bytes of the text, and its bytes from b on.
 fn joined(rt: &impl Print, text: &[u8], a: usize, b: usize, work: &mut [u32]) -> io::Result<()> {
-    let mut other = [0u8; 70000];
-    let k = test_frames::copy(text, 0, a, &mut other, 0);
-    let n = test_frames::copy(text, b, text.len(), &mut other, k);
-    run(rt, &other[0..n], work, false)
+    let mut bytes = [0u8; 70000];
+    let mut other = Text::new(&mut bytes);
+    other.push(test_frames::part(text, a).0);
+    other.push(test_frames::part(text, b).1);
+    read(rt, other.as_slice(), work)?;
+    Ok(())
 }
 
 // The text with another byte at i.
 fn changed(rt: &impl Print, text: &[u8], i: usize, v: usize, work: &mut [u32]) -> io::Result<()> {
-    let mut other = [0u8; 70000];
-    let n = test_frames::copy(text, 0, text.len(), &mut other, 0);
-    test_frames::store(&mut other, i, v);
-    run(rt, &other[0..n], work, false)
-}
-
-// Runs the frame at s, and answers where the next one is.
-fn frame(
-    rt: &impl Print,
-    all: &[u8],
-    s: Step,
-    text: &mut [u8],
-    work: &mut [u32],
-) -> io::Result<Step>
-    requires { s.at < 4294967296 }
-    ensures { IfOk result (λ next. s.at < next.at) }
-{
-    let a = test_frames::number(all, s.at + 1);
-    let b = test_frames::number(all, s.at + 5);
-    let from = s.at + 9;
-    let end = from + b;
-    match test_frames::byte_at(all, s.at) {
-        test_frames::TEXT => Ok(Step {
-            at: end,
-            len: test_frames::copy(all, from, end, text, 0),
-        }),
-        test_frames::REPEAT => Ok(Step {
-            at: end,
-            len: test_frames::copies(all, from, end, a, text, s.len),
-        }),
-        WHOLE => {
-            whole(rt, test_frames::first(text, s.len), work, a)?;
-            Ok(Step {
-                at: from,
-                len: s.len,
-            })
-        }
-        JOINED => {
-            joined(rt, test_frames::first(text, s.len), a, b, work)?;
-            Ok(Step {
-                at: from,
-                len: s.len,
-            })
-        }
-        _ => {
-            changed(rt, test_frames::first(text, s.len), a, b, work)?;
-            Ok(Step {
-                at: from,
-                len: s.len,
-            })
-        }
-    }
-}
-
-fn frames(rt: &impl Print, all: &[u8]) -> io::Result<()> {
-    let mut text = [0u8; 70000];
-    let mut work = [0u32; 16384];
-    let mut s = Step { at: 0, len: 0 };
-    while s.at < all.len() && s.at < 4294967296 {
-        s = frame(rt, all, s, &mut text, &mut work)?;
-    }
+    let mut bytes = [0u8; 70000];
+    let mut other = Text::new(&mut bytes);
+    other.push(text);
+    other.set(i, (v % 256) as u8);
+    read(rt, other.as_slice(), work)?;
     Ok(())
 }
 
+// Runs a call.
+fn call(rt: &impl Print, frame: Frame, text: &[u8], work: &mut [u32]) -> io::Result<()> {
+    let Frame { letter, a, b } = frame;
+    match letter {
+        b'w' if a <= work.len() => whole(rt, text, &mut work[..a]),
+        b'w' => Ok(()),
+        b'j' => joined(rt, text, a, b, work),
+        _ => changed(rt, text, a, b, work),
+    }
+}
+
 fn main(rt: HostRuntime) -> io::Result<()> {
-    let mut all = [0u8; 262144];
-    let n = program_input::read_full(&mut rt.reader(), &mut all)?;
-    frames(&rt, &all[0..n])
+    let mut work = [0u32; 16384];
+    test_frames::replay(
+        &mut rt.reader(),
+        |frame, text| call(&rt, frame, text, &mut work),
+    )
 }
