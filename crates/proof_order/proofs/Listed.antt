@@ -9,7 +9,7 @@ use mathlib.Core.Bool.{Bool, true, false, cond, ◌&&◌, ◌||◌, false≢true
 use mathlib.Core.List.{List, [], ◌∷◌, ◌++◌, append-nil}
 use lib.Dec.{eqb, leb}
 use lib.ListN.{length, get_or}
-use borrow.Author.Tests.{eqb-true, eqb-false, eq-eqb, ne_eqb, leb-true, leb-false, lt-ltb}
+use borrow.Author.Tests.{eqb-true, eqb-false, eq-eqb, ne_eqb, leb-true, leb-false, lt-ltb, le-leb}
 use Rattle.spec_faults.specs.Faults.{Fault, capture, by_place}
 use Rattle.spec_faults.proofs.Lists.{All, none, also, and_split}
 use Rattle.spec_faults.proofs.Once.{placed}
@@ -19,16 +19,17 @@ use Rattle.work_rows.specs.Rows.{Row}
 use Rattle.read_tree.specs.Laid.{no_row}
 use Rattle.proof_walk.specs.Slots.{Key, key_of, slots_from, keys}
 use Rattle.report_order.specs.declared.Around.{Around}
-use Rattle.std.proofs.Common.{None, is_some}
+use Rattle.work_marks.specs.Signs.{fault_of}
+use Rattle.std.proofs.Common.{None, not}
 use Rattle.spec_faults.proofs.KindNumbers.{number_again}
-use Rattle.report_order.specs.OrderModel.{entry, fault_of, number_of, slot_in, captured, captures, called, itself, new_lambda, around, placed_at, entries_from, any_slot}
+use Rattle.report_order.specs.OrderModel.{entry, number_of, slot_in, captured, captures, called, itself, new_lambda, around, placed_at, entries_from, any_slot}
 use Rattle.proof_order.specs.Shown.{Shows, Pairs}
 use Rattle.proof_order.proofs.Reach.{word_in, end_in, Free}
 use Rattle.proof_order.proofs.Right.{Outer, Way, at_row, at_call, at_lambda, in_class, Right}
 
 -- ---- a slot that has a number from 8 to 15 has the kind of that number
 slot_again : (n : ℕ) → 8 ≤ n → n ≤ 15 → number_of (fault_of n) ≡ n
-slot_again n l m = rw (ne_eqb n 0 (λ e. omega arith)) (number_again n l m)
+slot_again n l m = rw (le-leb 8 n l, le-leb n 15 m) (number_again n l m)
 
 -- ---- the slots of m rows from row i on are these faults
 pub data Slotted (w : List ℕ) : ℕ → ℕ → List Fault → Type 0 where
@@ -60,7 +61,7 @@ unfolding any_slot
 no_slots w zero i e = refl
 no_slots w (suc m) i e = go (slot_at w i) e (no_slots w m (suc i))
   where
-    go : (k : ℕ) → (is_some (fault_of k) || any_slot w m (i + 1)) ≡ false → (any_slot w m (suc i) ≡ false → slots_from w (suc i) m ≡ [])
+    go : (k : ℕ) → (not (eqb k 0) || any_slot w m (i + 1)) ≡ false → (any_slot w m (suc i) ≡ false → slots_from w (suc i) m ≡ [])
         → key_of (suc (suc i)) k ++ slots_from w (suc i) m ≡ []
     go zero e more = more (rw add-one at e)
     go (suc k) e more = absurd (false≢true (sym e ∙ rw (ne_eqb (suc k) 0 (λ q. omega arith))))

@@ -12,8 +12,9 @@ use borrow.Author.Tests.{ltb-true}
 use Rattle.spec_faults.specs.Faults.{capture}
 use Rattle.work_rows.specs.Layout.{put, rows_most}
 use Rattle.std.proofs.Common.{None}
-use Rattle.report_order.specs.OrderModel.{entry_base, entry, fault_of, number_of, slot_in, captured, captures, called, itself, around, placed_at, entries_from, stored}
+use Rattle.report_order.specs.OrderModel.{entry_base, entry, number_of, slot_in, captured, captures, called, itself, around, placed_at, entries_from, stored}
 use Rattle.work_marks.specs.MarksModel.{slot_at}
+use Rattle.work_marks.specs.Signs.{fault_of}
 use Rattle.report_order.specs.declared.Around.{Around}
 use Rattle.report_order.specs.declared.list.Entries.{Entries}
 use Rattle.report_order.specs.ListModel.{Listed}

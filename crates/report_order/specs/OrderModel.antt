@@ -1,12 +1,13 @@
 -- The faults in the report's order, from the slots: at each row those that have it as their place. A fault is one number: its kind, the row whose
 -- span it shows, and the row whose name it shows.
-use Rattle.std.specs.Prelude.{ℕ, zero, suc, ◌+◌, ◌*◌, ◌-◌, ◌/◌, ◌%◌, Bool, cond, ◌&&◌, ◌||◌, List, [], ◌∷◌, ◌++◌, eqb, leb, ltb, get_or, Option, Some, None, is_some}
+use Rattle.std.specs.Prelude.{ℕ, zero, suc, ◌+◌, ◌*◌, ◌-◌, ◌/◌, ◌%◌, Bool, cond, ◌&&◌, ◌||◌, List, [], ◌∷◌, ◌++◌, eqb, leb, ltb, get_or, Option, Some, None, not}
 use Rattle.std.specs.List.{list_any, range_with_len}
 use Rattle.spec_faults.specs.Faults.{capture}
 use Rattle.spec_faults.specs.declared.fault_kind.FaultKind.{FaultKind}
 use Rattle.spec_faults.specs.Kinds.{kind_number, kind_by_number}
 use Rattle.work_rows.specs.Layout.{put, rows_most, kind_at, lines_below, after_row}
 use Rattle.work_marks.specs.MarksModel.{slot_at}
+use Rattle.work_marks.specs.Signs.{fault_of}
 use Rattle.report_order.specs.declared.Around.{Around}
 use Rattle.report_order.specs.declared.Entry.{Entry}
 
@@ -16,10 +17,6 @@ entry_base = 12_288
 
 abbrev pub entry : ℕ → ℕ → ℕ → ℕ
 entry kind of row = 67_108_864 * kind + 8_192 * of + row
-
--- what a slot says: 0 where there is no fault, else the number of its kind
-abbrev pub fault_of : ℕ → Option FaultKind
-fault_of n = cond (eqb n 0) None (Some (kind_by_number n))
 
 -- the fault of row i, and none past the last row: there the entries stand
 abbrev pub fault_in : List ℕ → ℕ → Option FaultKind
@@ -98,7 +95,7 @@ entry_at w j =
 -- ---- whether a slot has a fault
 -- of n rows from row i on
 unfoldable pub any_slot : List ℕ → ℕ → ℕ → Bool
-any_slot w n i = list_any (λ j. is_some (fault_of (slot_at w j))) (range_with_len i n)
+any_slot w n i = list_any (λ j. not (eqb (slot_at w j) 0)) (range_with_len i n)
 
 -- of the rows from `first` up to `rows`
 abbrev pub any_fault : List ℕ → ℕ → ℕ → Bool

@@ -5,10 +5,9 @@ ghost use Rattle.std.specs.Prelude.{◌≡◌, ◌||◌, ◌<◌, ◌≤◌, eqb
 ghost use Rattle.spec_faults.specs.Faults.{capture};
 ghost use Rattle.spec_faults.specs.Kinds.{kind_number};
 ghost use Rattle.work_marks.specs.MarksModel.{slot_at};
-ghost use Rattle.report_order.specs.OrderModel.{fault_of, entries, stored, entry_at, any_fault};
+ghost use Rattle.report_order.specs.OrderModel.{entries, stored, entry_at, any_fault};
 
 use spec_faults::FaultKind;
-use work_marks::slot;
 
 mod list;
 
@@ -65,24 +64,13 @@ fn is_its_own_place(kind: FaultKind) -> bool
     )
 }
 
-// The kind of row i's fault, if it has one.
-fn fault(work: &[u32], i: usize) -> Option<FaultKind>
-    requires { i < 4294967296 }
-    ensures { result ≡ fault_of (slot_at work.now i) }
-{
-    match slot(work, i) {
-        0 => None,
-        number => Some(FaultKind::by_number(number)),
-    }
-}
-
 // Whether one of the rows from `first` up to `rows` has a fault.
 #[tactic(auto, unfolding(crate::specs::OrderModel::any_slot))]
 pub fn any_fault(work: &[u32], first: usize, rows: usize) -> bool
     requires { rows ≤ 4096 }
     ensures { result ≡ any_fault work.now first rows }
 {
-    (first..rows).any(|i| fault(work, i).is_some())
+    (first..rows).any(|i| work_marks::has_fault(work, i))
 }
 
 // Lists the faults of the rows from `first` up to `rows`, and answers how many there are.

@@ -5,9 +5,7 @@ ghost use Rattle.work_rows.specs.Layout.{kind_at, after_row};
 ghost use Rattle.report_order.specs.OrderModel.{entry, fault_in, captured, captures, called, itself, around, placed_at, entries};
 ghost use Rattle.report_order.specs.ListModel.{Listed};
 
-use crate::{
-    Around, ENTRY_BASE, ENTRY_KINDS, ENTRY_ROWS, fault, is_called, is_capture, is_its_own_place,
-};
+use crate::{Around, ENTRY_BASE, ENTRY_KINDS, ENTRY_ROWS, is_called, is_capture, is_its_own_place};
 use spec_faults::FaultKind;
 use spec_text::line_kind;
 use work_rows::ROWS_MOST;
@@ -25,7 +23,7 @@ impl<'a> Entries<'a> {
         ensures { result ≡ fault_in self.now.work.now i }
     {
         if i < ROWS_MOST {
-            fault(self.work, i)
+            work_marks::fault(self.work, i)
         } else {
             None
         }

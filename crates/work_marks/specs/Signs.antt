@@ -1,13 +1,13 @@
 -- What a slot and a flag say.
-use Rattle.std.specs.Prelude.{ℕ, cond, eqb, Option, Some, None}
+use Rattle.std.specs.Prelude.{ℕ, cond, ◌&&◌, eqb, leb, Option, Some, None}
 use Rattle.spec_faults.specs.declared.fault_kind.FaultKind.{FaultKind}
 use Rattle.spec_faults.specs.Kinds.{kind_by_number}
 use Rattle.work_marks.specs.declared.own.Own.{Own}
 use Rattle.work_marks.specs.declared.own.Own.TheVariants.{NotOwn, Assigned, Unassigned}
 
--- a slot: 0 where there is no fault, else the number of its kind
+-- a slot: the number of a kind, 8 to 15, or 0 where there is no fault
 abbrev pub fault_of : ℕ → Option FaultKind
-fault_of n = cond (eqb n 0) None (Some (kind_by_number n))
+fault_of n = cond (leb 8 n && leb n 15) (Some (kind_by_number n)) None
 
 -- a flag
 abbrev pub own_number : Own → ℕ

@@ -1,7 +1,7 @@
 // Marks of names and slots of rows, in the bits of the work buffer that the rows and the names leave free.
 #![tactic(auto)]
 
-ghost use Rattle.std.specs.Prelude.{◌≡◌, ◌<◌, ◌≤◌, length};
+ghost use Rattle.std.specs.Prelude.{◌≡◌, ◌<◌, ◌≤◌, length, not, eqb};
 ghost use Rattle.spec_faults.specs.Kinds.{kind_number};
 ghost use Rattle.work_marks.specs.MarksModel.{lambda_end, block_end, slot_at, stamp_at, flag_at, link_at, put_slot, put_stamp, put_flag, put_link, unmarked, unstamped, raised_lambda, raised_block};
 ghost use Rattle.work_marks.specs.Signs.{fault_of, own_number, own_by_number};
@@ -90,20 +90,20 @@ pub fn raise_block(work: &mut [u32], name: usize, end: usize)
     }
 }
 
-// The number of the kind of row i's fault, or 0.
-pub fn slot(work: &[u32], i: usize) -> usize
-    ensures { result ≡ slot_at work.now i }
+// Whether row i has a fault: whether its slot has a number.
+pub fn has_fault(work: &[u32], i: usize) -> bool
+    ensures { result ≡ not (eqb (slot_at work.now i) 0) }
 {
-    SLOT.get(work, i)
+    SLOT.get(work, i) != 0
 }
 
-// The kind of row i's fault, if it has one.
+// The kind of row i's fault, if its slot has the number of a kind.
 pub fn fault(work: &[u32], i: usize) -> Option<FaultKind>
     ensures { result ≡ fault_of (slot_at work.now i) }
 {
-    match slot(work, i) {
-        0 => None,
-        number => Some(FaultKind::by_number(number)),
+    match SLOT.get(work, i) {
+        number @ 8..=15 => Some(FaultKind::by_number(number)),
+        _ => None,
     }
 }
 
