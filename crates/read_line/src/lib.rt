@@ -38,7 +38,8 @@ pub struct Params {
     pub next: Cursor,
 }
 
-// A number of the line's span or a count, where one is due. Inlined, as the next two, so that no result passes through memory.
+// A number of the line's span or a count, where one is due.
+// It is inlined, as the next two are, so that no result passes through memory.
 #[tactic(auto, unfolding(crate::specs::StepsModel::number_if))]
 #[inline(always)]
 fn number_if(due: bool, largest: u32, text: &[u8], c: Cursor) -> Option<Number>
