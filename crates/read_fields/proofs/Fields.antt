@@ -1,7 +1,7 @@
 -- Fields and runs. The code runs over the bytes of a class, as the digits, while a contract speaks of the field, up to the next tab or LF.
 -- So far a run and the field go together (`Run`). Where the run stops, the field is all of the class only if it ends there (`run_stop`);
 -- a tab or LF there ends the field, and the run is the whole of it (`run_whole`); another byte leaves no such field (`run_broken`).
-use Rattle.std.proofs.Common.{◌≡◌, refl, sym, ◌∙◌, ℕ, zero, suc, ◌+◌, ◌-◌, ◌≤◌, ◌<◌, suc-le-suc, add-one, one-add, arith, Bool, true, false, cond, ◌&&◌, true≢false, [], ◌∷◌, length, get_or, take, drop, length-drop, drop-cons, ne_eqb, Some, None, position, eqb, bytes_eq, nat_lt, not, take_all, ltb-false, ap}
+use Rattle.std.proofs.Common.{◌≡◌, refl, sym, ◌∙◌, ℕ, zero, suc, ◌+◌, ◌-◌, ◌≤◌, ◌<◌, suc-le-suc, add-one, one-add, arith, Bool, true, false, cond, ◌&&◌, true≢false, [], ◌∷◌, length, ◌⊎◌, ⊎_elim, eq-eqb, eqb-true, drop_of_length-le, get_or, take, drop, length-drop, drop-cons, ne_eqb, Some, None, position, eqb, nat_lt, not, take_all, ltb-false, ap}
 use Rattle.std.proofs.lemmas.Option.{cond_some}
 use Rattle.std.specs.List.{position_or_len}
 use Rattle.spec_text.specs.Bytes.{Bytes, same, all, is_digit, is_name_byte}
@@ -133,14 +133,55 @@ field_all x e = go (nat_lt (position_or_len is_end x) (length x)) refl e
     go false h e = sym (take_all _ x (ltb-false _ _ h)) ∙ field_take x
 
 -- ---- a field and a word, byte for byte
-pub same_bytes : (x y : Bytes) → bytes_eq x y ≡ same x y
-same_bytes [] [] = refl
-same_bytes [] (b ∷ y) = refl
-same_bytes (a ∷ x) [] = refl
-same_bytes (a ∷ x) (b ∷ y) = ap (λ t. eqb a b && t) (same_bytes x y)
-
 pub same_length : (x y : Bytes) → same x y ≡ true → length x ≡ length y
 same_length x y e = ap length (same_eq x y e)
+
+module _ (x w : Bytes) (i : ℕ) (l : i < length w) (k : i < length x) where
+  -- the byte at i of a word is the one at i of the field, and ends no field
+  same_first : same (field_at x i) (drop i w) ≡ true → (get_or x i 0 ≡ get_or w i 0) × (is_end (get_or w i 0) ≡ false)
+  same_first h = go (is_end (get_or x i 0)) refl
+    where
+      go : (t : Bool) → is_end (get_or x i 0) ≡ t → (get_or x i 0 ≡ get_or w i 0) × (is_end (get_or w i 0) ≡ false)
+      go true e = absurd (clash h (rw (field_end x i e, drop-cons w i 0)))
+      go false e =
+          let q : eqb (get_or x i 0) (get_or w i 0) ≡ true = (and_split (eqb (get_or x i 0) (get_or w i 0)) _ (rw (field_cons x i k e, drop-cons w i 0) at h)).0 in
+          let f : get_or x i 0 ≡ get_or w i 0 = eqb-true _ _ q in
+          (f, rw f at e)
+
+  -- where a byte differs, or ends the field, the field does not have the word's bytes
+  pub same_not : same (field x) w ≡ same (field_at x i) (drop i w) → (get_or x i 0 ≡ get_or w i 0 → ⊥) ⊎ (is_end (get_or w i 0) ≡ true) → false ≡ same (field x) w
+  same_not e d = go (same (field_at x i) (drop i w)) refl
+    where
+      go : (t : Bool) → same (field_at x i) (drop i w) ≡ t → false ≡ same (field x) w
+      go true h = let f = same_first h in absurd (⊎_elim (λ n. n f.0) (λ n. clash n f.1) d)
+      go false h = sym (e ∙ h)
+
+  pub same_more : same (field x) w ≡ same (field_at x i) (drop i w) → get_or x i 0 ≡ get_or w i 0 → is_end (get_or w i 0) ≡ false
+      → same (field x) w ≡ same (field_at x (i + 1)) (drop (i + 1) w)
+  same_more h q e = h ∙ rw (field_cons x i k (ap is_end q ∙ e), add-one i, drop-cons w i 0) (rw (eq-eqb _ _ q))
+
+-- at the end of the word, what ends the field decides
+pub same_all : (x w : Bytes) (i : ℕ) → same (field x) w ≡ same (field_at x i) (drop i w) → length w ≤ i → same (field x) w ≡ same (field_at x i) []
+same_all x w i h l = h ∙ ap (same (field_at x i)) (drop_of_length-le w l)
+
+pub same_stop : (x : Bytes) (i : ℕ) → length x ≤ i → same (field_at x i) [] ≡ true
+unfolding field
+same_stop x i l = rw (drop_of_length-le x l)
+
+pub same_end : (x : Bytes) (i : ℕ) → i < length x → same (field_at x i) [] ≡ is_end (get_or x i 0)
+same_end x i l = go (is_end (get_or x i 0)) refl
+  where
+    go : (t : Bool) → is_end (get_or x i 0) ≡ t → same (field_at x i) [] ≡ t
+    go true e = ap (λ f. same f []) (field_end x i e)
+    go false e = ap (λ f. same f []) (field_cons x i l e)
+
+-- a word that is longer than the text is no field
+pub same_short : (x w : Bytes) → length x < length w → false ≡ same (field x) w
+same_short x w l = go (same (field x) w) refl
+  where
+    go : (t : Bool) → same (field x) w ≡ t → false ≡ t
+    go true e = absurd (omega (arith, same_length (field x) w e, field_length x))
+    go false e = refl
 
 -- ---- the hash
 pub hash_more : (h b : ℕ) (x : Bytes) → hash_from h (b ∷ x) ≡ hash_from (mix h b) x

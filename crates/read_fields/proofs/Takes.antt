@@ -6,7 +6,7 @@ use Rattle.std.proofs.lemmas.Bool.{cases_lt}
 use borrow.Author.Tests.{not-true}
 use Rattle.spec_text.specs.Bytes.{Bytes, same, all, is_digit, is_name_byte, is_name, is_number, decimal, value_of, leading_zero, longest_name}
 use Rattle.spec_text.proofs.Lists.{and_split}
-use Rattle.read_fields.specs.FieldsModel.{field, field_at, end_of, end_byte, past, past_end, next_at, takes, field_from, number_from, name_from, hash_of, hash_from}
+use Rattle.read_fields.specs.FieldsModel.{field, field_at, end_of, end_byte, past, past_byte, past_end, next_at, takes, field_from, number_from, name_from, hash_of, hash_from}
 use Rattle.read_bytes.specs.BytesModel.{is_end}
 use Rattle.read_fields.specs.declared.Cursor.{Cursor}
 use Rattle.read_fields.specs.declared.Number.{Number}
@@ -109,18 +109,22 @@ module _ (s x : Bytes) (c : Cursor) (e : x ≡ drop c.at s) where
   byte_from : (i : ℕ) → get_or x i 0 ≡ get_or s (c.at + i) 0
   byte_from i = rw e (get_or-drop c.at s i 0)
 
-  ends : (i : ℕ) (n : Cursor) → past_end s (c.at + i) ≡ Some n → is_end (get_or x i 0) ≡ true
-  ends i n h = ap is_end (byte_from i) ∙ (cond_some _ _ _ h).0
+  ends : (i : ℕ) (n : Cursor) → past_byte (get_or x i 0) (c.at + i) ≡ Some n → is_end (get_or x i 0) ≡ true
+  ends i n h = (cond_some _ _ _ h).0
 
-  goes_on : (i : ℕ) → past_end s (c.at + i) ≡ None → is_end (get_or x i 0) ≡ false
-  goes_on i h = ap is_end (byte_from i) ∙ go (is_end (get_or s (c.at + i) 0)) h
+  goes_on : (i : ℕ) → past_byte (get_or x i 0) (c.at + i) ≡ None → is_end (get_or x i 0) ≡ false
+  goes_on i h = go (is_end (get_or x i 0)) h
     where
-      go : (t : Bool) → cond t (Some (next_at s (c.at + i))) None ≡ None → t ≡ false
+      go : (t : Bool) → cond {A = Option Cursor} t (Some (record { at = c.at + i + 1; more = eqb (get_or x i 0) 9 })) None ≡ None → t ≡ false
       go true h = absurd cc
       go false h = refl
 
-  steps : (i : ℕ) (n : Cursor) → length (field x) ≡ i → past_end s (c.at + i) ≡ Some n → n ≡ past s c.at
-  steps i n l h = sym (cond_some _ _ _ h).1 ∙ ap (λ (j : ℕ). next_at s (c.at + j)) (sym l ∙ ap length field_here)
+  steps : (i : ℕ) (n : Cursor) → length (field x) ≡ i → past_byte (get_or x i 0) (c.at + i) ≡ Some n → n ≡ past s c.at
+  steps i n l h =
+      let b : get_or x i 0 ≡ get_or s (c.at + i) 0 = byte_from i in
+      let k : record { at = c.at + i + 1; more = eqb (get_or x i 0) 9 } ≡ next_at s (c.at + i) =
+      ap (λ (m : Bool). record { at = c.at + i + 1; more = m }) (ap (λ (y : ℕ). eqb y 9) b) in
+      sym (cond_some _ _ _ h).1 ∙ (k ∙ ap (λ (j : ℕ). next_at s (c.at + j)) (sym l ∙ ap length field_here))
 
   -- no tab or LF ends the field
   broken : (p : ℕ → Bool) (i : ℕ) → Run p x i → p (get_or x i 0) ≡ false → is_end (get_or x i 0) ≡ false → all p (field x) ≡ true
@@ -140,7 +144,7 @@ module _ (s x : Bytes) (c : Cursor) (e : x ≡ drop c.at s) where
     pub number_led : (i : ℕ) → Run is_digit x i → is_digit (get_or x i 0) ≡ false → 1 < i → get_or x 0 0 ≡ 48 → None ≡ number_from largest s c
     number_led i r h l z = no_number (λ k d. clash (led_by x (omega (arith, run_stop r h k.each)) ∙ eq-eqb _ 48 z) k.led)
 
-    pub number_broken : (i : ℕ) → Run is_digit x i → is_digit (get_or x i 0) ≡ false → past_end s (c.at + i) ≡ None → None ≡ number_from largest s c
+    pub number_broken : (i : ℕ) → Run is_digit x i → is_digit (get_or x i 0) ≡ false → past_byte (get_or x i 0) (c.at + i) ≡ None → None ≡ number_from largest s c
     number_broken i r h n = no_number (λ k d. broken is_digit i r h (goes_on i n) k.each d)
 
     pub number_above : (i v : ℕ) → Run is_digit x i → decimal 0 (field x) ≡ decimal v (field_at x i) → is_digit (get_or x i 0) ≡ true
@@ -150,7 +154,7 @@ module _ (s x : Bytes) (c : Cursor) (e : x ≡ drop c.at s) where
         no_number (λ k d. omega (arith, more, k.small, decimal_grows (10 * v + (get_or x i 0 - 48)) (field_at x (i + 1))))
 
     pub number_taken : (i v : ℕ) (n : Cursor) → c.more ≡ true → Run is_digit x i → decimal 0 (field x) ≡ decimal v (field_at x i) → v ≤ largest
-        → (i ≡ 0 → ⊥) → (1 < i → get_or x 0 0 ≡ 48 → ⊥) → past_end s (c.at + i) ≡ Some n
+        → (i ≡ 0 → ⊥) → (1 < i → get_or x 0 0 ≡ 48 → ⊥) → past_byte (get_or x i 0) (c.at + i) ≡ Some n
         → ◌≡◌ {A = Option Number} (Some (record { value = v; next = n })) (number_from largest s c)
     number_taken i v n m r q l z led h =
         let d : is_end (get_or x i 0) ≡ true = ends i n h in
@@ -185,11 +189,11 @@ module _ (s x : Bytes) (c : Cursor) (e : x ≡ drop c.at s) where
   pub name_digit : is_digit (get_or x 0 0) ≡ true → None ≡ name_from s c
   name_digit h = no_name (λ k d. clash h (sym (ap is_digit (field_first x 0 k.some)) ∙ k.first))
 
-  pub name_broken : (i : ℕ) → Run is_name_byte x i → is_name_byte (get_or x i 0) ≡ false → past_end s (c.at + i) ≡ None → None ≡ name_from s c
+  pub name_broken : (i : ℕ) → Run is_name_byte x i → is_name_byte (get_or x i 0) ≡ false → past_byte (get_or x i 0) (c.at + i) ≡ None → None ≡ name_from s c
   name_broken i r h n = no_name (λ k d. broken is_name_byte i r h (goes_on i n) k.each d)
 
   pub name_taken : (i h : ℕ) (n : Cursor) → c.more ≡ true → Run is_name_byte x i → hash_from 0 (field x) ≡ hash_from h (field_at x i)
-      → (i ≡ 0 → ⊥) → i ≤ longest_name → is_digit (get_or x 0 0) ≡ false → past_end s (c.at + i) ≡ Some n
+      → (i ≡ 0 → ⊥) → i ≤ longest_name → is_digit (get_or x 0 0) ≡ false → past_byte (get_or x i 0) (c.at + i) ≡ Some n
       → ◌≡◌ {A = Option Name} (Some (record { at = c.at; len = i; hash = h; next = n })) (name_from s c)
   name_taken i h n m r q z l f g =
       let d : is_end (get_or x i 0) ≡ true = ends i n g in

@@ -33,9 +33,12 @@ past text at = record { at = end_of text at + 1; more = eqb (end_byte text at) 9
 abbrev pub next_at : Bytes → ℕ → Cursor
 next_at text end = record { at = end + 1; more = eqb (get_or text end 0) 9 }
 
--- the cursor past the byte at an offset, which has to be a tab or LF
+-- the cursor past the byte b at an offset, which has to be a tab or LF
+abbrev pub past_byte : ℕ → ℕ → Option Cursor
+past_byte b i = cond (is_end b) (Some (record { at = i + 1; more = eqb b 9 })) None
+
 abbrev pub past_end : Bytes → ℕ → Option Cursor
-past_end text i = cond (is_end (get_or text i 0)) (Some (next_at text i)) None
+past_end text i = past_byte (get_or text i 0) i
 
 -- a step takes a field where there is one, its bytes are right, and a tab or LF ends it
 abbrev pub takes : (Bytes → Bool) → Bytes → Cursor → Bool

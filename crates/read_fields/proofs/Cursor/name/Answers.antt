@@ -20,7 +20,7 @@ returns-then-len-eq0 c =
 pub returns-then-not-is_name_byte : goal.returns-then-not-is_name_byte
 returns-then-not-is_name_byte c =
     name_taken c.args.text.now _ c.args.self c.rest-name.ensures _ _ c.in_ok-next.next (not-false _ c.if-not-self.false) c.loop-len.invariant.0 c.loop-len.invariant.2
-    c.if-len-eq0.false c.if-len-gt-LONGEST_NAME.false (cc) (sym c.past_end.ensures ∙ c.in_ok-next.was)
+    c.if-len-eq0.false c.if-len-gt-LONGEST_NAME.false (cc) (sym c.past.ensures ∙ c.in_ok-next.was)
 
 pub loop-len-preserved : goal.loop-len-preserved
 loop-len-preserved c =

@@ -28,7 +28,7 @@ returns-then-not-is_digit c =
       | else-len-gt1 x ↦ omega arith
     ] in
     number_taken c.args.text.now _ c.args.self c.rest-digits.ensures _ _ _ c.in_ok-next.next (not-false _ c.if-not-self.false) c.loop-len.invariant.0 c.loop-len.invariant.2
-    c.loop-len.invariant.1 c.if-len-eq0.false led (sym c.past_end.ensures ∙ c.in_ok-next.was)
+    c.loop-len.invariant.1 c.if-len-eq0.false led (sym c.past.ensures ∙ c.in_ok-next.was)
 
 pub loop-len-preserved : goal.loop-len-preserved
 loop-len-preserved c =
