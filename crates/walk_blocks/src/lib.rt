@@ -36,7 +36,8 @@ fn enter(text: &[u8], work: &mut [u32], scope: &Scope, i: usize)
     }
 }
 
-// Into the block of row i, up to the row stop: binds its parameters; of a def, flags each `var` by how its name stands to the def.
+// Into the block of row i, up to the row stop: binds its parameters; of a def, flags each `var` by how its name stands
+// to the def.
 #[tactic(auto, unfolding(crate::specs::BlocksModel::opened))]
 pub fn enter_block(text: &[u8], work: &mut [u32], scope: &Scope, i: usize, stop: usize)
     requires { (i ≤ 4096) × (stop ≤ 16384) }

@@ -35,7 +35,7 @@ fn unbound_kind(scope: &Scope, used: Use) -> FaultKind
 // The kind of a fault of a name that is not in view.
 #[tactic(auto, unfolding(crate::specs::JudgeModel::undefined_kind))]
 fn undefined_kind(scope: &Scope, used: Use) -> FaultKind
-    ensures { kind_number result ≡ undefined_kind (scope_of scope.now).home (scope_of scope.now).outer (is_called used) }
+    ensures { let s = scope_of scope.now in kind_number result ≡ undefined_kind s.home s.outer (is_called used) }
 {
     match (scope.top.home, scope.lambdas, used) {
         (Home::Module, Some(_), _) => FaultKind::UndefinedCapture,
@@ -44,7 +44,8 @@ fn undefined_kind(scope: &Scope, used: Use) -> FaultKind
     }
 }
 
-// Row i has a fault of this kind. A name that a lambda is blamed for counts as its parameter from there on: it is blamed once.
+// Row i has a fault of this kind. A name that a lambda is blamed for counts as its parameter from there on: it is
+// blamed once.
 #[tactic(auto, unfolding(crate::specs::JudgeModel::faulted, work_marks::specs::MarksModel::raised_lambda))]
 fn fault(work: &mut [u32], scope: &Scope, name: usize, i: usize, kind: FaultKind)
     ensures { work.new ≡ faulted (scope_of scope.now).outer name i (kind_number kind) work.old }

@@ -1,6 +1,7 @@
-// A def's own names, and where they are assigned: where a def is opened, each `var` in its block gets a flag that says whether its name is an
-// own name of the def, and whether it is assigned at that row. Own names are gathered first, each with a stamp, the first row from which
-// it is assigned; then the flags are set, and the stamps are forgotten. A stamp that does not come after the def's row is an old one.
+// A def's own names, and where they are assigned: where a def is opened, each `var` in its block gets a flag that says
+// whether its name is an own name of the def, and whether it is assigned at that row. Own names are gathered first,
+// each with a stamp, the first row from which it is assigned; then the flags are set, and the stamps are forgotten. A
+// stamp that does not come after the def's row is an old one.
 #![tactic(auto)]
 
 ghost use Rattle.std.specs.Prelude.{◌≡◌, ◌<◌, ◌≤◌, ℕ, List};
@@ -8,7 +9,8 @@ ghost use Rattle.work_rows.specs.Layout.{number_at};
 ghost use Rattle.work_rows.specs.LoopsModel.{rows_to};
 ghost use Rattle.work_marks.specs.MarksModel.{stamp_at};
 ghost use Rattle.work_marks.specs.Signs.{own_number};
-ghost use Rattle.walk_own_names.specs.OwnNamesModel.{noted, forgot, row_binds, assigned_from, next_binding, flag_for, row_flagged, next_in_block, flagged};
+ghost use Rattle.walk_own_names.specs.OwnNamesModel.{noted, forgot, row_binds, assigned_from, next_binding, flag_for};
+ghost use Rattle.walk_own_names.specs.OwnNamesModel.{row_flagged, next_in_block, flagged};
 
 use spec_text::line_kind;
 use work_marks::{NEVER, Own};
@@ -40,7 +42,8 @@ fn assigned_from(work: &[u32], i: usize) -> Option<usize>
     }
 }
 
-// The next row that may bind a name in the block: past nested defs and classes, and past expressions that are no targets.
+// The next row that may bind a name in the block: past nested defs and classes, and past expressions that are no
+// targets.
 #[tactic(auto, unfolding(crate::specs::OwnNamesModel::next_binding))]
 fn next_binding(work: &[u32], i: usize) -> usize
     requires { i ≤ 16384 }
@@ -116,6 +119,7 @@ fn next_in_block(work: &[u32], i: usize) -> usize
 }
 
 // One row after the other, from `first` up to `stop`: what is done at a row, and which row is next.
+// Kept: a while, since which row is next is asked of the buffer that the step is lent.
 fn each_row<N: Fn(&[u32], usize) -> usize, F: Fn(&mut [u32], usize)>(
     work: &mut [u32],
     first: usize,

@@ -1,7 +1,7 @@
-// The stack of scopes, lent: push, pop, define and is_defined, as in scope.rs. A scope is the block of a def or a method, or the module, and is
-// known by its row; a name that is bound in it has a mark up to the row after it: so a scope that has ended binds nothing, and leaving it undoes no
-// mark. The struct is the scope on top. The row of an open block links to the row of the scope below it, in the work buffer, and what else a
-// scope is follows from its row.
+// The stack of scopes, lent: push, pop, define and is_defined, as in scope.rs. A scope is the block of a def or a
+// method, or the module, and is known by its row; a name that is bound in it has a mark up to the row after it: so a
+// scope that has ended binds nothing, and leaving it undoes no mark. The struct is the scope on top. The row of an open
+// block links to the row of the scope below it, in the work buffer, and what else a scope is follows from its row.
 #![tactic(auto)]
 
 ghost use Rattle.std.specs.Prelude.{◌≡◌, ◌<◌};
@@ -23,8 +23,8 @@ pub enum Home {
     Method,
 }
 
-// The scope on top: its home, its row and the row after it. The module goes by the row ROWS_MOST and its number of rows, which is after every
-// row that there can be.
+// The scope on top: its home, its row and the row after it. The module goes by the row ROWS_MOST and its number of
+// rows, which is after every row that there can be.
 #[derive(Clone, Copy)]
 pub struct ScopeStack {
     pub home: Home,

@@ -1,14 +1,18 @@
-// The walk over the rows of a tree: statements, lists of statements, expressions and lists of expressions call each other, and the number of
-// lines left falls at each call. Names are marked where they are bound, and the kind of a row's fault goes to its slot. Statements are lent the
-// stack of scopes; expressions are lent where they stand, and change nothing of it.
-// `left` is the number of rows at the start, and one less at each level. The lines around a line are other rows, one a level: so a line
-// of a tree that was read is never met with none left. The test for 0 is there so that the walk ends on any numbers.
+// The walk over the rows of a tree: statements, lists of statements, expressions and lists of expressions call each
+// other, and the number of lines left falls at each call. Names are marked where they are bound, and the kind of a
+// row's fault goes to its slot. Statements are lent the stack of scopes; expressions are lent where they stand, and
+// change nothing of it.
+// `left` is the number of rows at the start, and one less at each level. The lines around a line are other rows, one a
+// level: so a line of a tree that was read is never met with none left. The test for 0 is there so that the walk ends
+// on any numbers.
 #![tactic(auto)]
 
 ghost use Rattle.std.specs.Prelude.{◌≡◌, ◌<◌, ◌≤◌, false, length};
 ghost use Rattle.walk_scopes.specs.ScopesModel.{scope_of, top_of};
 ghost use Rattle.walk_judge.specs.JudgeModel.{is_called};
-ghost use Rattle.walk_tree.specs.WalkModel.{walk, next_target, method_at, head_at, begun_block, block_at, assign_at, walk_target, walk_targets, walk_expr, walk_exprs, walk_stmt, walk_stmts, walk_line, walk_body, walked};
+ghost use Rattle.walk_tree.specs.WalkModel.{walk, next_target, method_at, head_at, begun_block, block_at, assign_at};
+ghost use Rattle.walk_tree.specs.WalkModel.{walk_target, walk_targets, walk_expr, walk_exprs, walk_stmt, walk_stmts};
+ghost use Rattle.walk_tree.specs.WalkModel.{walk_line, walk_body, walked};
 
 use spec_faults::FaultKind;
 use spec_text::line_kind;
@@ -95,6 +99,8 @@ fn walk_expr(text: &[u8], work: &mut [u32], left: usize, used: Use, scope: &Scop
 }
 
 // A list of expressions.
+// Kept: a loop, here and in the lists of targets and statements: a closure for one row, in a cycle of calls, needs a
+// contract of its own, and is longer than the loop.
 #[cycle(walks)]
 fn walk_exprs(text: &[u8], work: &mut [u32], left: usize, scope: &Scope, first: usize, stop: usize)
     requires { stop ≤ 16384 }
@@ -108,7 +114,8 @@ fn walk_exprs(text: &[u8], work: &mut [u32], left: usize, scope: &Scope, first: 
     }
 }
 
-// An expression of a statement, outside of lambdas. It stands apart so that a level of statements has one place for where it stands.
+// An expression of a statement, outside of lambdas. It stands apart so that a level of statements has one place for
+// where it stands.
 #[cycle(walks)]
 fn walk_value(text: &[u8], work: &mut [u32], left: usize, s: &ScopeStack, i: usize)
     ensures { work.new ≡ walk_expr left text.now false (top_of s.now) i work.old }
@@ -206,8 +213,8 @@ fn walk_block(text: &[u8], work: &mut [u32], left: usize, s: &mut ScopeStack, i:
     s.pop(work);
 }
 
-// The body of a lambda, a line of either sort. A statement, which no text has there, is walked as a list of one: so `walk_stmt` has one caller,
-// and is a part of it in the machine code.
+// The body of a lambda, a line of either sort. A statement, which no text has there, is walked as a list of one: so
+// `walk_stmt` has one caller, and is a part of it in the machine code.
 #[cycle(walks)]
 fn walk_line(text: &[u8], work: &mut [u32], left: usize, scope: &Scope, i: usize)
     requires { i < 16384 }
@@ -246,7 +253,8 @@ fn walk_stmts(
     }
 }
 
-// Walks the tree of so many `global` lines and so many rows: afterwards the slot of each row has the kind of its fault, or 0.
+// Walks the tree of so many `global` lines and so many rows: afterwards the slot of each row has the kind of its fault,
+// or 0.
 #[tactic(auto, unfolding(crate::specs::WalkModel::walked))]
 pub fn walk(text: &[u8], work: &mut [u32], globals: usize, rows: usize)
     requires { (globals ≤ 4096) × (rows ≤ 4096) × (16384 ≤ length work.old) }

@@ -3,7 +3,9 @@
 
 ghost use Rattle.std.specs.Prelude.{◌≡◌, ◌<◌, ◌≤◌, length, not, eqb};
 ghost use Rattle.spec_faults.specs.Kinds.{kind_number};
-ghost use Rattle.work_marks.specs.MarksModel.{lambda_end, block_end, slot_at, stamp_at, flag_at, link_at, put_slot, put_stamp, put_flag, put_link, unmarked, unstamped, raised_lambda, raised_block};
+ghost use Rattle.work_marks.specs.MarksModel.{lambda_end, block_end, slot_at, stamp_at, flag_at, link_at, put_slot};
+ghost use Rattle.work_marks.specs.MarksModel.{put_stamp, put_flag, put_link, unmarked, unstamped, raised_lambda};
+ghost use Rattle.work_marks.specs.MarksModel.{raised_block};
 ghost use Rattle.work_marks.specs.Signs.{fault_of, own_number, own_by_number};
 
 use spec_faults::FaultKind;
@@ -114,7 +116,8 @@ pub fn put_slot(work: &mut [u32], i: usize, kind: FaultKind)
     SLOT.put(work, i, kind.number())
 }
 
-// The stamp of a name: the row from which it is assigned in the def whose own names are being gathered, if it comes after that def's row.
+// The stamp of a name: the row from which it is assigned in the def whose own names are being gathered, if it comes
+// after that def's row.
 pub fn stamp(work: &[u32], name: usize) -> usize
     ensures { result ≡ stamp_at work.now name }
 {

@@ -2,7 +2,8 @@
 ghost use Rattle.std.specs.Prelude.{◌≡◌};
 ghost use Rattle.work_marks.specs.Signs.{own_number, own_by_number};
 
-// How the name of a `var` stands to the def around: none of the def's own names, one that is assigned at that row, or one that is not.
+// How the name of a `var` stands to the def around: none of the def's own names, one that is assigned at that row, or
+// one that is not.
 #[derive(Clone, Copy, PartialEq, Eq)]
 pub enum Own {
     NotOwn,
