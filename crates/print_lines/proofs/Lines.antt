@@ -1,10 +1,5 @@
 -- The lines of one record more.
-use Prim.Native.Nat.{ℕ, zero, suc, ◌+◌, ◌*◌}
-use native.Mathlib.Nat.{add-zero}
-use native.Mathlib.Numerals.{add-one}
-use native.Mathlib.Omega.{arith}
-use mathlib.Core.Path.{◌≡◌, ap, sym, ◌∙◌}
-use mathlib.Core.List.{List, ◌++◌, append-nil, append_assoc}
+use Rattle.std.proofs.Common.{ℕ, zero, suc, ◌+◌, ◌*◌, add-zero, add-one, arith, ◌≡◌, ap, sym, ◌∙◌, List, ◌++◌, append-nil, append_assoc}
 use Rattle.spec_text.specs.Bytes.{Bytes}
 use Rattle.print_lines.specs.LinesModel.{record_in, record_line, record_lines}
 

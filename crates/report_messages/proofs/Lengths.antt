@@ -1,11 +1,5 @@
 -- How long the words and the names of a message are: no field is longer than its table, no part longer than the text.
-use Prim.Native.Nat.{ℕ, ◌+◌, ◌-◌, ◌≤◌}
-use native.Mathlib.Omega.{arith}
-use mathlib.Core.Path.{◌≡◌}
-use mathlib.Core.Bool.{Bool, true, false, cond, ◌&&◌}
-use mathlib.Core.List.{[]}
-use lib.Dec.{leb}
-use lib.ListN.{length, take, drop, length-take, length-drop, length-append}
+use Rattle.std.proofs.Common.{ℕ, ◌+◌, ◌-◌, ◌≤◌, arith, ◌≡◌, Bool, true, false, cond, ◌&&◌, [], leb, length, take, drop, length-take, length-drop, length-append}
 use Rattle.spec_text.specs.Bytes.{Bytes, part_of}
 use Rattle.spec_faults.specs.Faults.{Words, written}
 use Rattle.read_fields.specs.FieldsModel.{field_at}

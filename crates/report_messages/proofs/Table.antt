@@ -1,9 +1,5 @@
 -- What a table of texts says of a kind: the words of its line.
-use Prim.Native.Nat.{ℕ, zero, suc, ◌+◌, ◌-◌, ◌≤◌, ◌<◌}
-use native.Mathlib.Omega.{arith}
-use mathlib.Core.Path.{◌≡◌, refl, sym, ap, subst, ◌∙◌}
-use mathlib.Core.List.{List, ◌++◌}
-use borrow.Author.Tests.{eq-eqb, ne_eqb}
+use Rattle.std.proofs.Common.{ℕ, zero, suc, ◌+◌, ◌-◌, ◌≤◌, ◌<◌, arith, ◌≡◌, refl, sym, ap, subst, ◌∙◌, List, ◌++◌, eq-eqb, ne_eqb}
 use Rattle.spec_text.specs.Bytes.{Bytes}
 use Rattle.spec_faults.specs.Faults.{Words, written, message_from, message}
 use Rattle.read_fields.specs.FieldsModel.{field_at}

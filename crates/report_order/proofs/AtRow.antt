@@ -1,12 +1,6 @@
 -- The definitions by their tests: what is listed at a row, what is around the rows below it, how many entries a row has, and one row more.
-use Prim.Native.Nat.{ℕ, zero, suc, ◌+◌, ◌-◌, ◌≤◌, ◌<◌}
-use native.Mathlib.Omega.{arith}
-use mathlib.Core.Path.{◌≡◌, ap}
-use mathlib.Core.Bool.{Bool, true, false, cond, ◌&&◌, ◌||◌}
-use mathlib.Core.List.{List, [], ◌∷◌, ◌++◌, append-nil}
-use lib.Dec.{eqb, leb}
-use lib.ListN.{length, length-append}
-use borrow.Author.Tests.{eq-eqb, ne_eqb, le-leb, lt-leb}
+use Rattle.std.proofs.Common.{ℕ, zero, suc, ◌+◌, ◌-◌, ◌≤◌, ◌<◌, arith, ◌≡◌, ap, Bool, true, false, cond, ◌&&◌, ◌||◌, List, [], ◌∷◌, ◌++◌, append-nil, eqb, leb, length, length-append, eq-eqb, ne_eqb, le-leb}
+use borrow.Author.Tests.{lt-leb}
 use Rattle.spec_faults.specs.Faults.{capture}
 use Rattle.work_rows.specs.Layout.{kind_at, lines_below, after_row}
 use Rattle.report_order.specs.declared.Around.{Around}
@@ -28,11 +22,6 @@ module _ (a k end p : ℕ) where
   other d = rw (ne_eqb a k d)
 
 module _ (w : List ℕ) (x : Around) (p : ℕ) where
-  pub around_by : {a b : Bool} → new_lambda w x p ≡ a → new_class w x p ≡ b
-      → around w x p ≡ record { lambda = cond a (after_row w p) x.lambda; class = cond b p x.class; end = cond b (after_row w p) x.end }
-  unfolding around
-  around_by e f = rw (e, f)
-
   pub class_few : p ≤ 4_096 → x.class ≤ 4_096 → (around w x p).class ≤ 4_096
   unfolding around
   class_few l m = go (new_class w x p)

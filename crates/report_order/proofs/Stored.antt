@@ -1,17 +1,8 @@
 -- Entries are written one after another, past the rows and the slots. So what is listed from a buffer is the same after any entries are
 -- written, and a list of entries can be written part by part.
-use Prim.Native.Nat.{ℕ, zero, suc, ◌+◌, ◌/◌, ◌≤◌, ◌<◌}
-use native.Mathlib.Omega.{arith}
-use mathlib.Core.Path.{◌≡◌, refl, sym, ap, ap₂, ◌∙◌, subst}
-use mathlib.Core.Bool.{Bool, true, false, cond, ◌||◌}
-use mathlib.Core.List.{List, [], ◌∷◌, ◌++◌}
-use lib.Dec.{eqb, ltb}
-use lib.ListN.{length, get_or, length-append}
-use lib.Seq.{get_or-set_other}
-use borrow.Author.Tests.{ltb-true}
+use Rattle.std.proofs.Common.{ℕ, zero, suc, ◌+◌, ◌/◌, ◌≤◌, ◌<◌, arith, ◌≡◌, refl, sym, ap, ap₂, ◌∙◌, subst, Bool, true, false, cond, ◌||◌, List, [], ◌∷◌, ◌++◌, eqb, ltb, length, get_or, length-append, ltb-true, None, get_or-set_other}
 use Rattle.spec_faults.specs.Faults.{capture}
 use Rattle.work_rows.specs.Layout.{put, rows_most}
-use Rattle.std.proofs.Common.{None}
 use Rattle.report_order.specs.OrderModel.{entry_base, entry, number_of, slot_in, captured, captures, called, itself, around, placed_at, entries_from, stored}
 use Rattle.work_marks.specs.MarksModel.{slot_at}
 use Rattle.work_marks.specs.Signs.{fault_of}

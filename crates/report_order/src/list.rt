@@ -11,6 +11,7 @@ use spec_text::line_kind;
 use work_rows::ROWS_MOST;
 
 // So many entries, in this buffer.
+// Kept: `few`, a bound on the count, is asked by each method: each adds to the count, so no invariant of the type can say it.
 #[derive(Drop)]
 pub struct Entries<'a> {
     pub work: &'a mut [u32],

@@ -1,12 +1,6 @@
 -- What is written over an output buffer from its start: one record after the other.
-use Prim.Native.Nat.{ℕ, zero, suc, ◌+◌, ◌*◌}
-use native.Mathlib.Omega.{arith}
-use native.Mathlib.Numerals.{add-one}
-use native.Mathlib.Nat.{add-zero, zero-add}
-use mathlib.Core.Path.{◌≡◌, refl, sym, ap, ◌∙◌}
-use mathlib.Core.List.{List, ◌++◌, append_assoc}
-use lib.ListN.{length, take, drop, length-append}
-use lib.Seq.{take-append_seam, drop-append-add, drop-drop}
+use Rattle.std.proofs.Common.{ℕ, zero, suc, ◌+◌, ◌*◌, arith, add-one, add-zero, zero-add, ◌≡◌, refl, sym, ap, ◌∙◌, List, ◌++◌, append_assoc, length, take, drop, length-append, drop-drop}
+use lib.Seq.{take-append_seam, drop-append-add}
 use Rattle.spec_text.specs.Bytes.{Bytes}
 use Rattle.spec_answers.specs.Answers.{over}
 use Rattle.report_records.specs.RecordsModel.{numbers32}
