@@ -13,8 +13,8 @@ const LARGEST_SPAN: u32 = 4294967295;
 
 const LARGEST_COUNT: u32 = 4096;
 
-// A line as numbers: the word's place in the table, the class of places where it is due, its span, its own name with its
-// hash, its counts, how many parameters it has, and where the next line starts. What it has not is 0.
+// A line as numbers: the word's place in the table, the class of places where it is due, its span, its own name with
+// its hash, its counts, how many parameters it has, and where the next line starts. What it has not is 0.
 #[derive(Clone, Copy, Default)]
 pub struct Line {
     pub kind: usize,
@@ -53,7 +53,7 @@ fn number_if(due: bool, largest: u32, text: &[u8], c: Cursor) -> Option<Number>
 }
 
 // The line's own name, where one is due.
-// Kept: apart from number_if, whose result has another type; one function with a closure for the step is longer to call.
+// Kept: apart from number_if, whose result has another type; with a closure for the step each call would be longer.
 #[tactic(auto, unfolding(crate::specs::StepsModel::name_if))]
 #[inline(always)]
 fn name_if(due: bool, text: &[u8], c: Cursor) -> Option<Name>

@@ -42,6 +42,7 @@ stands_numbers h = rw (h.ended, cut_line) (rw h.is)
 
 -- ---- a line of the text as a row shows it
 pub record Shown (text : Bytes) (w : List ℕ) (i : ℕ) (l : Line) : Type 0 where
+  pub there : line_at text (line_start text (offset_at w i)) ≡ Some (line_of_row text w i)
   pub kind : (line_of_row text w i).kind ≡ l.word
   pub start : (line_of_row text w i).start ≡ l.start
   pub end : (line_of_row text w i).end ≡ l.end
@@ -68,9 +69,12 @@ module _ {text : Bytes} {rows : List Row} {w : List ℕ} (h : Holds text rows w)
     unfolding line_of_row
     line_kept =
         let s : line_start text (offset_at w i) ≡ start_of text i = ap (line_start text) (h.offsets i l) ∙ stands_start a in
-        let n : line_of_row text w i ≡ numbers_of a.parsed (cut_at text (start_of text i)).next = ap (λ (o : Option Numbers). unwrap_or o no_line) (ap (line_at text) s ∙ stands_numbers a) in
+        let o : line_at text (line_start text (offset_at w i)) ≡ Some (numbers_of a.parsed (cut_at text (start_of text i)).next) =
+        ap (line_at text) s ∙ stands_numbers a in
+        let n : line_of_row text w i ≡ numbers_of a.parsed (cut_at text (start_of text i)).next = ap (λ (o : Option Numbers). unwrap_or o no_line) o in
         let of : (f : Numbers → ℕ) → f (line_of_row text w i) ≡ f (numbers_of a.parsed (cut_at text (start_of text i)).next) = λ f. ap f n in
         record {
+          there = o ∙ ap (λ (x : Numbers). Some x) (sym n);
           kind = of (λ x. x.kind) ∙ ap (λ (y : Line). y.word) a.line;
           start = of (λ x. x.start) ∙ ap (λ (y : Line). y.start) a.line;
           end = of (λ x. x.end) ∙ ap (λ (y : Line). y.end) a.line;
