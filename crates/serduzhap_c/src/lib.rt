@@ -55,8 +55,8 @@ pub fn serduzhap_check(text: &[u8], work: &mut [u32], answer: &mut [u32; CHECK_A
             answer,
             &[
                 record.kind.number(),
-                work_rows::wide(record.start),
-                work_rows::wide(record.end),
+                record.start as usize,
+                record.end as usize,
                 record.name,
                 record.name_len,
                 record.class,

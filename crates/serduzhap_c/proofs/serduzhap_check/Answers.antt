@@ -8,9 +8,9 @@ pub returns-in-Ok-Some : goal.returns-in-Ok-Some
 returns-in-Ok-Some c =
     let a = c.args in
     uncut 7 _ (rw c.in-Ok-Some.field-0-is at c.in-Ok-Some.ensures) (omega arith)
-    (rw (c.wide.ensures.0, c.wide-in-Ok-Some.ensures.0) at c.put-in-Ok-Some.ensures) (check_small a.text.now (length a.work.now))
+    (rw c.number.ensures at c.put-in-Ok-Some.ensures) (check_small a.text.now (length a.work.now))
 
 pub returns-in-Err : goal.returns-in-Err
 returns-in-Err c =
     let a = c.args in
-    uncut 7 _ c.in-Err.ensures (omega arith) (rw c.number.ensures at c.put-in-Err.ensures) (check_small a.text.now (length a.work.now))
+    uncut 7 _ c.in-Err.ensures (omega arith) (rw c.number-in-Err.ensures at c.put-in-Err.ensures) (check_small a.text.now (length a.work.now))
