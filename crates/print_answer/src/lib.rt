@@ -3,7 +3,8 @@
 
 ghost use Rattle.spec_answers.specs.Printed.{Prints};
 
-use serduzhap::ReportResult;
+use serduzhap::ReportError;
+use spec_text::refusal;
 
 // The numbers of the report buffer and of the work buffer.
 pub const REPORT: usize = 16384;
@@ -20,10 +21,15 @@ pub fn print(
     ensures { Prints text.now out.old out.new result }
 {
     match serduzhap::report(text, work, report) {
-        ReportResult::Written { count } => {
+        Ok(count) => {
             let at = print_lines::push_faults(text, report, count, out);
             print_lines::push_count(out, at, count)
         }
-        ReportResult::Refused { number, line } => print_lines::push_refused(out, number, line),
+        Err(ReportError::Refused(refused)) => {
+            print_lines::push_refused(out, refused.why.number(), refused.line)
+        }
+        Err(ReportError::OutputTooShort { count }) => {
+            print_lines::push_refused(out, refusal::OUTPUT_TOO_SHORT, count)
+        }
     }
 }

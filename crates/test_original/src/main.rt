@@ -8,14 +8,13 @@
 ghost use Rattle.std.specs.Prelude.{◌<◌, IfOk};
 
 use report_records::Record;
-use serduzhap::{CheckResult, MessageResult};
 use std::io;
 
 // The words of the first fault.
 fn say_message(rt: &impl Print, text: &[u8], work: &mut [u32], bytes: &mut [u8]) -> io::Result<()> {
     match serduzhap::message(text, work, 0, bytes) {
-        MessageResult::Written { len } => test_frames::say(rt, test_frames::first(bytes, len)),
-        _ => test_frames::say(rt, b"no message"),
+        Ok(len) => test_frames::say(rt, test_frames::first(bytes, len)),
+        Err(_) => test_frames::say(rt, b"no message"),
     }
 }
 
@@ -36,12 +35,12 @@ fn say_fault(
 // Checks a text and writes its line.
 fn check(rt: &impl Print, text: &[u8], work: &mut [u32], bytes: &mut [u8]) -> io::Result<()> {
     match serduzhap::check(text, work) {
-        CheckResult::Accepted => test_frames::say(rt, b"accepted\n"),
-        CheckResult::Faulty { record } => say_fault(rt, record, text, work, bytes),
-        CheckResult::Refused { number, line } => {
+        Ok(None) => test_frames::say(rt, b"accepted\n"),
+        Ok(Some(record)) => say_fault(rt, record, text, work, bytes),
+        Err(refused) => {
             test_frames::say(rt, b"refused\t")?;
-            test_frames::put(rt, number, b"\t")?;
-            test_frames::put(rt, line, b"\n")
+            test_frames::put(rt, refused.why.number(), b"\t")?;
+            test_frames::put(rt, refused.line, b"\n")
         }
     }
 }

@@ -10,7 +10,6 @@
 
 ghost use Rattle.std.specs.Prelude.{◌+◌, ◌<◌, IfOk};
 
-use read_tree::Read;
 use std::io;
 use test_frames::Step;
 
@@ -52,20 +51,20 @@ fn show(rt: &impl Print, work: &[u32], lines: usize) -> io::Result<()> {
 fn run(rt: &impl Print, text: &[u8], work: &mut [u32], all_rows: bool) -> io::Result<()> {
     test_frames::fill(work, 4294967295);
     match read_tree::read_tree(text, work) {
-        Read::Tree { globals, lines } => {
+        Ok(tree) => {
             test_frames::say(rt, b"tree\t")?;
-            test_frames::put(rt, globals, b"\t")?;
-            test_frames::put(rt, lines, b"\t")?;
-            test_frames::put(rt, sum_of(work, lines), b"\n")?;
+            test_frames::put(rt, tree.globals, b"\t")?;
+            test_frames::put(rt, tree.lines, b"\t")?;
+            test_frames::put(rt, sum_of(work, tree.lines), b"\n")?;
             if all_rows {
-                show(rt, work, lines)?;
+                show(rt, work, tree.lines)?;
             }
             Ok(())
         }
-        Read::Refused { number, line } => {
+        Err(refused) => {
             test_frames::say(rt, b"refused\t")?;
-            test_frames::put(rt, number, b"\t")?;
-            test_frames::put(rt, line, b"\n")
+            test_frames::put(rt, refused.why.number(), b"\t")?;
+            test_frames::put(rt, refused.line, b"\n")
         }
     }
 }
