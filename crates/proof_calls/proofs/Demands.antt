@@ -19,7 +19,7 @@ use Rattle.spec_answers.specs.Answers.{written, faulty, refused, refused_at, fir
 use Rattle.spec_answers.specs.RustAnswers.{SpanOf}
 use Rattle.spec_answers.proofs.Theorems.{records_length, rust_check, rust_message}
 use Rattle.serduzhap.specs.Calls.{check_says, Checks, Gives, report_says, Reports, message_says, Messages, part_says, Names}
-use Rattle.std.specs.Prelude.{Option as Maybe, None, Some, Result, Ok, Err}
+use Rattle.std.specs.Prelude.{Option as Maybe, None, Result, Ok, Err}
 use Rattle.spec_text.specs.declared.refusal.Refused.{Refused}
 use Rattle.serduzhap.specs.declared.ReportError.{ReportError}
 use Rattle.serduzhap.specs.declared.MessageError.{MessageError}

@@ -13,7 +13,7 @@ use Rattle.spec_faults.proofs.FaultKinds.{FromEight, kinds}
 use Rattle.spec_faults.proofs.Theorems.{rule_holds}
 use Rattle.spec_answers.specs.Answers.{accepted, faulty, refused_at, first_record, check_of}
 use Rattle.serduzhap.specs.Calls.{check_says, Checks}
-use Rattle.std.specs.Prelude.{Option as Maybe, None, Some, Result, Ok, Err}
+use Rattle.std.specs.Prelude.{Option as Maybe, None, Result, Ok}
 use Rattle.spec_text.specs.declared.refusal.Refused.{Refused}
 use Rattle.report_records.specs.declared.Record.{Record}
 use Rattle.proof_calls.specs.Passed.{Passes, Passed}
