@@ -14,7 +14,7 @@ use Rattle.spec_faults.specs.Kinds.{kind_by_number}
 use Rattle.spec_faults.proofs.FaultKinds.{FromEight, kinds}
 use Rattle.spec_faults.proofs.KindNumbers.{number_again}
 use Rattle.spec_faults.specs.Faults.{Fault, faults, record7, records}
-use Rattle.spec_answers.specs.Answers.{report, nth_fault, over}
+use Rattle.spec_answers.specs.Answers.{Answer, written, refused_at, report, nth_fault, over}
 use Rattle.spec_answers.specs.Printed.{fault_line, fault_lines, refused_line, report_buffer, printed, Prints}
 use Rattle.spec_text.specs.Writing.{decimal_of, line_with}
 use Rattle.write_bytes.specs.PushModel.{bytes_pushed, pushed_to, Pushes}
@@ -23,9 +23,7 @@ use Rattle.print_lines.specs.LinesModel.{record_in, record_line, record_lines}
 use Rattle.find_faults.specs.Found.{Shown}
 use Rattle.find_faults.proofs.Theorems.{faults_shown}
 use Rattle.find_faults.proofs.Fitting.{fault_of_lem}
-use Rattle.serduzhap.specs.Calls.{Gives, report_says}
-use Rattle.serduzhap.specs.declared.ReportResult.{ReportResult}
-use Rattle.serduzhap.specs.declared.ReportResult.TheVariants as R
+use Rattle.serduzhap.specs.Calls.{Gives}
 use Rattle.print_answer.proofs.Cases.{by_answer}
 
 both : {a b c d : Bytes} → a ≡ b → c ≡ d → a ++ c ≡ b ++ d
@@ -82,28 +80,30 @@ module _ (text : Bytes) where
       → record_lines text (over (records fs) old) 0 (length fs) ≡ fault_lines fs
   lines_reported fs old = lines_from fs [] (drop (length (records fs)) old) 0 refl
 
--- ---- `report` returned r, and left the numbers ns in the report buffer
-module _ (text : Bytes) (work old : List ℕ) (long : length work ≡ shortest_work) (room : length old ≡ report_buffer) (r : ReportResult) (ns : List ℕ)
-    (e : Gives (report text (length work) (length old)) old ns (report_says r)) where
-  here : Gives (report text shortest_work report_buffer) old ns (report_says r)
-  here = rw (long, room) at e
+-- ---- what `report` says, where it left the numbers ns in the report buffer
+module _ (text : Bytes) (work old : List ℕ) (long : length work ≡ shortest_work) (room : length old ≡ report_buffer) (ns : List ℕ) where
+  abbrev Says : Answer → Type 0
+  Says a = Gives (report text (length work) (length old)) old ns a
 
-  pub print_written : (k : ℕ) → r ≡ R.Written k → (record_lines text ns 0 k ++ line_with "faults" (decimal_of k ∷ []) ≡ printed text) × (k < 16_777_216)
-  print_written k h =
-      by_answer text (λ a b. Gives a old ns (report_says r) → (record_lines text ns 0 k ++ line_with "faults" (decimal_of k ∷ []) ≡ b) × (k < 16_777_216))
+  here : {a : Answer} → Says a → Gives (report text shortest_work report_buffer) old ns a
+  here e = rw (long, room) at e
+
+  pub print_written : (k : ℕ) → Says (written k) → (record_lines text ns 0 k ++ line_with "faults" (decimal_of k ∷ []) ≡ printed text) × (k < 16_777_216)
+  print_written k e =
+      by_answer text (λ a b. Gives a old ns (written k) → (record_lines text ns 0 k ++ line_with "faults" (decimal_of k ∷ []) ≡ b) × (k < 16_777_216))
       (λ i n d. let z : ◌≡◌ {A = ℕ} 0 1 = cc in absurd (omega arith))
       (λ t g few d.
       let i : k ≡ length (faults t) = cc in
-      (rw (i, d.1) (both (lines_reported text (faults t) old (λ j f at. (fault_of_lem (kinds t) j f at, faults_shown text shortest_work t g j f at))) refl), omega arith)) here
+      (rw (i, d.1) (both (lines_reported text (faults t) old (λ j f at. (fault_of_lem (kinds t) j f at, faults_shown text shortest_work t g j f at))) refl), omega arith)) (here e)
 
-  pub print_refused : (k n : ℕ) → r ≡ R.Refused k n → refused_line k n ≡ printed text
-  print_refused k n h =
-      by_answer text (λ a b. Gives a old ns (report_says r) → refused_line k n ≡ b)
+  pub print_refused : (k n : ℕ) → Says (refused_at k n) → refused_line k n ≡ printed text
+  print_refused k n e =
+      by_answer text (λ a b. Gives a old ns (refused_at k n) → refused_line k n ≡ b)
       (λ i m d.
       let p : k ≡ i = cc in
       let q : n ≡ m = cc in
       rw (p, q))
-      (λ t g few d. let z : ◌≡◌ {A = ℕ} 0 1 = cc in absurd (omega arith)) here
+      (λ t g few d. let z : ◌≡◌ {A = ℕ} 0 1 = cc in absurd (omega arith)) (here e)
 
 -- ---- what is pushed to the start of a buffer
 pub prints : (text : Bytes) (old : List ℕ) {new : List ℕ} {n : ℕ} → Pushes old 0 (printed text) new n → Prints text old new n

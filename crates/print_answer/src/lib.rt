@@ -4,7 +4,8 @@
 ghost use Rattle.spec_answers.specs.Printed.{printed, Prints};
 ghost use Rattle.write_bytes.specs.OutputModel.{Pushed};
 
-use serduzhap::ReportResult;
+use serduzhap::ReportError;
+use spec_text::refusal;
 use write_bytes::Output;
 
 // The numbers of the report buffer and of the work buffer.
@@ -22,11 +23,16 @@ fn push_printed(
     ensures { Pushed output.old (printed text.now) output.new }
 {
     match serduzhap::report(text, work, report) {
-        ReportResult::Written { count } => {
+        Ok(count) => {
             print_lines::push_faults(text, report, count, output);
             print_lines::push_count(output, count);
         }
-        ReportResult::Refused { number, line } => print_lines::push_refused(output, number, line),
+        Err(ReportError::Refused(refused)) => {
+            print_lines::push_refused(output, refused.why.number(), refused.line)
+        }
+        Err(ReportError::OutputTooShort { count }) => {
+            print_lines::push_refused(output, refusal::OUTPUT_TOO_SHORT, count)
+        }
     }
 }
 

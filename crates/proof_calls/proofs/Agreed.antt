@@ -22,12 +22,16 @@ use Rattle.spec_answers.specs.Answers.{Answer, accepted, written, faulty, refuse
 use Rattle.spec_answers.proofs.Theorems.{records_length}
 use Rattle.report_records.specs.declared.Record.{Record}
 use Rattle.serduzhap.specs.Calls.{check_says, report_says, message_says}
-use Rattle.serduzhap.specs.declared.CheckResult.{CheckResult}
-use Rattle.serduzhap.specs.declared.CheckResult.TheVariants as C
-use Rattle.serduzhap.specs.declared.ReportResult.{ReportResult}
-use Rattle.serduzhap.specs.declared.ReportResult.TheVariants as R
-use Rattle.serduzhap.specs.declared.MessageResult.{MessageResult}
-use Rattle.serduzhap.specs.declared.MessageResult.TheVariants as M
+use Rattle.std.specs.Prelude.{Option as Maybe, None, Some, Result, Ok, Err}
+use Rattle.spec_text.specs.Numbers.{refusal_number}
+use Rattle.spec_text.specs.declared.refusal.Refusal.{Refusal}
+use Rattle.spec_text.specs.declared.refusal.Refusal.TheVariants.{TextTooLong, WorkTooShort, LineMissing, LineLeft, Malformed, NotDue, OverLimit}
+use Rattle.spec_text.proofs.Numbers.{one_refused}
+use Rattle.spec_text.specs.declared.refusal.Refused.{Refused}
+use Rattle.serduzhap.specs.declared.ReportError.{ReportError}
+use Rattle.serduzhap.specs.declared.ReportError.TheVariants as R
+use Rattle.serduzhap.specs.declared.MessageError.{MessageError}
+use Rattle.serduzhap.specs.declared.MessageError.TheVariants as M
 use Rattle.serduzhap_c.specs.Numbers.{numbers}
 
 -- ---- an answer says which case it is
@@ -44,49 +48,64 @@ count (written k) = k
 count (faulty ns) = 0
 count (refused k vs) = 0
 
-pub check_says_lem : (c d : CheckResult) → check_says c ≡ check_says d → c ≡ d
-check_says_lem C.Accepted C.Accepted e = refl
-check_says_lem (C.Faulty r) (C.Faulty q) e = rw (kind_again r.kind, kind_again q.kind) at (ap (λ a. C.Faulty (record_of a)) e)
-check_says_lem (C.Refused j m) (C.Refused k n) e =
-    let a : j ≡ k = cc in
-    let b : m ≡ n = cc in
-    rw (a, b)
-check_says_lem C.Accepted (C.Faulty q) e = let z : ◌≡◌ {A = ℕ} 0 1 = cc in absurd (omega arith)
-check_says_lem C.Accepted (C.Refused k n) e = let z : ◌≡◌ {A = ℕ} 0 1 = cc in absurd (omega arith)
-check_says_lem (C.Faulty r) C.Accepted e = let z : ◌≡◌ {A = ℕ} 0 1 = cc in absurd (omega arith)
-check_says_lem (C.Faulty r) (C.Refused k n) e = let z : ◌≡◌ {A = ℕ} 0 1 = cc in absurd (omega arith)
-check_says_lem (C.Refused j m) C.Accepted e = let z : ◌≡◌ {A = ℕ} 0 1 = cc in absurd (omega arith)
-check_says_lem (C.Refused j m) (C.Faulty q) e = let z : ◌≡◌ {A = ℕ} 0 1 = cc in absurd (omega arith)
+pub check_says_lem : (c d : Result (Maybe Record) Refused) → check_says c ≡ check_says d → c ≡ d
+check_says_lem (Ok None) (Ok None) e = refl
+check_says_lem (Ok (Some r)) (Ok (Some q)) e = rw (kind_again r.kind, kind_again q.kind) at (ap (λ a. Ok (Some (record_of a))) e)
+check_says_lem (Err r) (Err q) e =
+    let a : refusal_number r.why ≡ refusal_number q.why = cc in
+    let b : r.line ≡ q.line = cc in
+    ap Err (one_refused a b)
+check_says_lem (Ok None) (Ok (Some q)) e = let z : ◌≡◌ {A = ℕ} 0 1 = cc in absurd (omega arith)
+check_says_lem (Ok None) (Err q) e = let z : ◌≡◌ {A = ℕ} 0 1 = cc in absurd (omega arith)
+check_says_lem (Ok (Some r)) (Ok None) e = let z : ◌≡◌ {A = ℕ} 0 1 = cc in absurd (omega arith)
+check_says_lem (Ok (Some r)) (Err q) e = let z : ◌≡◌ {A = ℕ} 0 1 = cc in absurd (omega arith)
+check_says_lem (Err r) (Ok None) e = let z : ◌≡◌ {A = ℕ} 0 1 = cc in absurd (omega arith)
+check_says_lem (Err r) (Ok (Some q)) e = let z : ◌≡◌ {A = ℕ} 0 1 = cc in absurd (omega arith)
 
-pub report_says_lem : (r q : ReportResult) → report_says r ≡ report_says q → r ≡ q
-report_says_lem (R.Written j) (R.Written k) e = let a : j ≡ k = cc in rw a
-report_says_lem (R.Written j) (R.Refused k n) e = let z : ◌≡◌ {A = ℕ} 0 1 = cc in absurd (omega arith)
-report_says_lem (R.Refused j m) (R.Written k) e = let z : ◌≡◌ {A = ℕ} 0 1 = cc in absurd (omega arith)
-report_says_lem (R.Refused j m) (R.Refused k n) e =
-    let a : j ≡ k = cc in
-    let b : m ≡ n = cc in
-    rw (a, b)
+-- a text's refusal has another number than 16
+why_small : (w : Refusal) → refusal_number w ≤ 7
+why_small TextTooLong = omega arith
+why_small WorkTooShort = omega arith
+why_small LineMissing = omega arith
+why_small LineLeft = omega arith
+why_small Malformed = omega arith
+why_small NotDue = omega arith
+why_small OverLimit = omega arith
 
-pub message_says_lem : (r q : MessageResult) → message_says r ≡ message_says q → r ≡ q
-message_says_lem (M.Written j) (M.Written k) e = let a : j ≡ k = cc in rw a
-message_says_lem (M.Refused j m) (M.Refused k n) e =
-    let a : j ≡ k = cc in
-    let b : m ≡ n = cc in
-    rw (a, b)
-message_says_lem M.NoFault M.NoFault e = refl
-message_says_lem M.TooLong M.TooLong e = refl
-message_says_lem (M.Written j) (M.Refused k n) e = let z : ◌≡◌ {A = ℕ} 0 1 = cc in absurd (omega arith)
-message_says_lem (M.Written j) M.NoFault e = let z : ◌≡◌ {A = ℕ} 0 1 = cc in absurd (omega arith)
-message_says_lem (M.Written j) M.TooLong e = let z : ◌≡◌ {A = ℕ} 0 1 = cc in absurd (omega arith)
-message_says_lem (M.Refused j m) (M.Written k) e = let z : ◌≡◌ {A = ℕ} 0 1 = cc in absurd (omega arith)
-message_says_lem (M.Refused j m) M.NoFault e = let z : ◌≡◌ {A = ℕ} 0 1 = cc in absurd (omega arith)
-message_says_lem (M.Refused j m) M.TooLong e = let z : ◌≡◌ {A = ℕ} 0 1 = cc in absurd (omega arith)
-message_says_lem M.NoFault (M.Written k) e = let z : ◌≡◌ {A = ℕ} 0 1 = cc in absurd (omega arith)
-message_says_lem M.NoFault (M.Refused k n) e = let z : ◌≡◌ {A = ℕ} 0 1 = cc in absurd (omega arith)
-message_says_lem M.NoFault M.TooLong e = let z : ◌≡◌ {A = ℕ} 17 18 = cc in absurd (omega arith)
-message_says_lem M.TooLong (M.Written k) e = let z : ◌≡◌ {A = ℕ} 0 1 = cc in absurd (omega arith)
-message_says_lem M.TooLong (M.Refused k n) e = let z : ◌≡◌ {A = ℕ} 0 1 = cc in absurd (omega arith)
-message_says_lem M.TooLong M.NoFault e = let z : ◌≡◌ {A = ℕ} 18 17 = cc in absurd (omega arith)
+pub report_says_lem : (r q : Result ℕ ReportError) → report_says r ≡ report_says q → r ≡ q
+report_says_lem (Ok j) (Ok k) e = let a : j ≡ k = cc in rw a
+report_says_lem (Err (R.Refused c)) (Err (R.Refused d)) e =
+    let a : refusal_number c.why ≡ refusal_number d.why = cc in
+    let b : c.line ≡ d.line = cc in
+    ap (λ (x : Refused). Err (R.Refused x)) (one_refused a b)
+report_says_lem (Err (R.OutputTooShort m)) (Err (R.OutputTooShort n)) e = let a : m ≡ n = cc in rw a
+report_says_lem (Err (R.Refused c)) (Err (R.OutputTooShort n)) e = let a : refusal_number c.why ≡ 16 = cc in absurd (omega (arith, a, why_small c.why))
+report_says_lem (Err (R.OutputTooShort n)) (Err (R.Refused c)) e = let a : 16 ≡ refusal_number c.why = cc in absurd (omega (arith, a, why_small c.why))
+report_says_lem (Ok j) (Err (R.Refused c)) e = let z : ◌≡◌ {A = ℕ} 0 1 = cc in absurd (omega arith)
+report_says_lem (Ok j) (Err (R.OutputTooShort n)) e = let z : ◌≡◌ {A = ℕ} 0 1 = cc in absurd (omega arith)
+report_says_lem (Err (R.Refused c)) (Ok k) e = let z : ◌≡◌ {A = ℕ} 0 1 = cc in absurd (omega arith)
+report_says_lem (Err (R.OutputTooShort n)) (Ok k) e = let z : ◌≡◌ {A = ℕ} 0 1 = cc in absurd (omega arith)
+
+pub message_says_lem : (r q : Result ℕ MessageError) → message_says r ≡ message_says q → r ≡ q
+message_says_lem (Ok j) (Ok k) e = let a : j ≡ k = cc in rw a
+message_says_lem (Err (M.Refused c)) (Err (M.Refused d)) e =
+    let a : refusal_number c.why ≡ refusal_number d.why = cc in
+    let b : c.line ≡ d.line = cc in
+    ap (λ (x : Refused). Err (M.Refused x)) (one_refused a b)
+message_says_lem (Err M.NoFault) (Err M.NoFault) e = refl
+message_says_lem (Err M.TooLong) (Err M.TooLong) e = refl
+message_says_lem (Ok j) (Err (M.Refused d)) e = let z : ◌≡◌ {A = ℕ} 0 1 = cc in absurd (omega arith)
+message_says_lem (Ok j) (Err M.NoFault) e = let z : ◌≡◌ {A = ℕ} 0 1 = cc in absurd (omega arith)
+message_says_lem (Ok j) (Err M.TooLong) e = let z : ◌≡◌ {A = ℕ} 0 1 = cc in absurd (omega arith)
+message_says_lem (Err (M.Refused c)) (Ok k) e = let z : ◌≡◌ {A = ℕ} 0 1 = cc in absurd (omega arith)
+message_says_lem (Err (M.Refused c)) (Err M.NoFault) e = let z : ◌≡◌ {A = ℕ} 0 1 = cc in absurd (omega arith)
+message_says_lem (Err (M.Refused c)) (Err M.TooLong) e = let z : ◌≡◌ {A = ℕ} 0 1 = cc in absurd (omega arith)
+message_says_lem (Err M.NoFault) (Ok k) e = let z : ◌≡◌ {A = ℕ} 0 1 = cc in absurd (omega arith)
+message_says_lem (Err M.NoFault) (Err (M.Refused d)) e = let z : ◌≡◌ {A = ℕ} 0 1 = cc in absurd (omega arith)
+message_says_lem (Err M.NoFault) (Err M.TooLong) e = let z : ◌≡◌ {A = ℕ} 17 18 = cc in absurd (omega arith)
+message_says_lem (Err M.TooLong) (Ok k) e = let z : ◌≡◌ {A = ℕ} 0 1 = cc in absurd (omega arith)
+message_says_lem (Err M.TooLong) (Err (M.Refused d)) e = let z : ◌≡◌ {A = ℕ} 0 1 = cc in absurd (omega arith)
+message_says_lem (Err M.TooLong) (Err M.NoFault) e = let z : ◌≡◌ {A = ℕ} 18 17 = cc in absurd (omega arith)
 
 -- ---- what a report is, by cases of the text and of the output's length
 abbrev pub whole : ℕ → List ℕ → Outcome

@@ -19,12 +19,12 @@ use Rattle.spec_answers.specs.Answers.{written, faulty, refused, refused_at, fir
 use Rattle.spec_answers.specs.RustAnswers.{SpanOf}
 use Rattle.spec_answers.proofs.Theorems.{records_length, rust_check, rust_message}
 use Rattle.serduzhap.specs.Calls.{check_says, Checks, Gives, report_says, Reports, message_says, Messages, part_says, Names}
-use Rattle.serduzhap.specs.declared.CheckResult.{CheckResult}
-use Rattle.serduzhap.specs.declared.CheckResult.TheVariants as C
-use Rattle.serduzhap.specs.declared.ReportResult.{ReportResult}
-use Rattle.serduzhap.specs.declared.ReportResult.TheVariants as R
-use Rattle.serduzhap.specs.declared.MessageResult.{MessageResult}
-use Rattle.serduzhap.specs.declared.MessageResult.TheVariants as M
+use Rattle.std.specs.Prelude.{Option as Maybe, None, Result, Ok, Err}
+use Rattle.spec_text.specs.declared.refusal.Refused.{Refused}
+use Rattle.serduzhap.specs.declared.ReportError.{ReportError}
+use Rattle.serduzhap.specs.declared.MessageError.{MessageError}
+use Rattle.serduzhap.specs.declared.MessageError.TheVariants as M
+use Rattle.report_records.specs.declared.Record.{Record}
 use Rattle.serduzhap.specs.declared.NamePart.{NamePart}
 use Rattle.proof_calls.specs.Demands.{Refusals, TooMany, AllFit, NoFault, TooLong, Fits, CheckRefuses, ReportRefuses, MessageRefuses, NameIsEmpty, SameReport, SameMessage, Demand2, Demand3}
 use Rattle.proof_calls.proofs.Agreed.{count, check_says_lem, report_says_lem, message_says_lem, whole, Report, report_refused, too_short, report_written, report_by, Message, message_refused, no_fault, too_long, message_written, message_by, none_nth, all_nth, report_counts, message_counts, alike, refusal_range}
@@ -34,7 +34,7 @@ use Rattle.proof_calls.proofs.Passed.{passed, first_none}
 refusals : (text : Bytes) (work : ℕ) → Refusals text work
 refusals text work = record { first = first_refusal text work; second = second_refusal text work; numbers = λ k n e. refusal_range text work e }
 
-pub check_refuses : (text : Bytes) (work : ℕ) (c : CheckResult) → Checks text work c → CheckRefuses text work c
+pub check_refuses : (text : Bytes) (work : ℕ) (c : Result (Maybe Record) Refused) → Checks text work c → CheckRefuses text work c
 check_refuses text work c h = record { refusals = refusals text work; refused = (passed text work c h).refused }
 
 -- ---- report: a refusal and its condition, by cases of the text and of the output's length
@@ -71,16 +71,16 @@ module _ (out : ℕ) where
   report_quiet (too_short h) e = refl
   report_quiet (report_written h) e = let z : ◌≡◌ {A = ℕ} 0 1 = cc in absurd (omega arith)
 
-pub report_refuses : (text : Bytes) (work : ℕ) (old new : List ℕ) (r : ReportResult) → Reports text work old new r → ReportRefuses text work old new r
+pub report_refuses : (text : Bytes) (work : ℕ) (old new : List ℕ) (r : Result ℕ ReportError) → Reports text work old new r → ReportRefuses text work old new r
 report_refuses text work old new r h =
     let out = length old in
     let x = reading text work in
     let by = report_by out x in
     record {
       refusals = refusals text work;
-      refused = λ k n. (λ e. short_from out by (sym (ap report_says e) ∙ h.0), λ p. report_says_lem r (R.Refused k n) (h.0 ∙ from_short out x p));
-      written = λ n. (λ e. holds_from out by (sym (ap report_says e) ∙ h.0), λ p. report_says_lem r (R.Written n) (h.0 ∙ from_holds out x p));
-      unchanged = λ k n e. h.1 ∙ ap (λ ns. over ns old) (report_quiet out by (sym (ap report_says e) ∙ h.0));
+      refused = λ k n. (λ e. short_from out by (sym e ∙ h.0), λ p. h.0 ∙ from_short out x p);
+      written = λ n. (λ e. holds_from out by (sym (ap report_says e) ∙ h.0), λ p. report_says_lem r (Ok n) (h.0 ∙ from_holds out x p));
+      unchanged = λ k n e. h.1 ∙ ap (λ ns. over ns old) (report_quiet out by (sym e ∙ h.0));
     }
 
 -- ---- message: the same
@@ -134,18 +134,18 @@ module _ (i out : ℕ) where
       let r : (wrote_if out m).answer ≡ written (length m) = rw (le-ltb out (length m) p.4, wrote_if) in
       ap (λ y. (message_in i out y).answer) p.2 ∙ ap (λ o. (message_or out o).answer) p.3 ∙ r ∙ ap written (sym p.5)
 
-pub message_refuses : (text : Bytes) (work i : ℕ) (old new : Bytes) (r : MessageResult) → Messages text work i old new r → MessageRefuses text work i old new r
+pub message_refuses : (text : Bytes) (work i : ℕ) (old new : Bytes) (r : Result ℕ MessageError) → Messages text work i old new r → MessageRefuses text work i old new r
 message_refuses text work i old new r h =
     let out = length old in
     let x = reading text work in
     let by = message_by i out x in
     record {
       refusals = refusals text work;
-      refused = λ k n. (λ e. refused_from i out by (sym (ap message_says e) ∙ h.0), λ p. message_says_lem r (M.Refused k n) (h.0 ∙ from_refused i out x p));
-      no_fault = (λ e. without_from i out by (sym (ap message_says e) ∙ h.0), λ p. message_says_lem r M.NoFault (h.0 ∙ from_without i out x p));
-      too_long = (λ e. longer_from i out by (sym (ap message_says e) ∙ h.0), λ p. message_says_lem r M.TooLong (h.0 ∙ from_longer i out x p));
-      written = λ n. (λ e. fits_from i out by (sym (ap message_says e) ∙ h.0), λ p. message_says_lem r (M.Written n) (h.0 ∙ from_fits i out x p));
-      unchanged = λ u. h.1 ∙ ap (λ ns. over ns old) (message_quiet i out by (λ n e. u n (message_says_lem r (M.Written n) (h.0 ∙ sym e))));
+      refused = λ k n. (λ e. refused_from i out by (sym e ∙ h.0), λ p. h.0 ∙ from_refused i out x p);
+      no_fault = (λ e. without_from i out by (sym (ap message_says e) ∙ h.0), λ p. message_says_lem r (Err M.NoFault) (h.0 ∙ from_without i out x p));
+      too_long = (λ e. longer_from i out by (sym (ap message_says e) ∙ h.0), λ p. message_says_lem r (Err M.TooLong) (h.0 ∙ from_longer i out x p));
+      written = λ n. (λ e. fits_from i out by (sym (ap message_says e) ∙ h.0), λ p. message_says_lem r (Ok n) (h.0 ∙ from_fits i out x p));
+      unchanged = λ u. h.1 ∙ ap (λ ns. over ns old) (message_quiet i out by (λ n e. u n (message_says_lem r (Ok n) (h.0 ∙ sym e))));
     }
 
 -- ---- name
@@ -158,10 +158,10 @@ name_is_empty text work i r h =
     }
 
 -- ---- two calls on one text, with buffers of the same lengths
-pub one_check : (text : Bytes) (work : ℕ) (c d : CheckResult) → Checks text work c → Checks text work d → c ≡ d
+pub one_check : (text : Bytes) (work : ℕ) (c d : Result (Maybe Record) Refused) → Checks text work c → Checks text work d → c ≡ d
 one_check text work c d a b = check_says_lem c d (a ∙ sym b)
 
-pub one_report : (text : Bytes) (work : ℕ) (old old' new new' : List ℕ) (r r' : ReportResult) → length old ≡ length old'
+pub one_report : (text : Bytes) (work : ℕ) (old old' new new' : List ℕ) (r r' : Result ℕ ReportError) → length old ≡ length old'
     → Reports text work old new r → Reports text work old' new' r' → SameReport new new' r r'
 one_report text work old old' new new' r r' e a b =
     let o = report text work (length old) in
@@ -173,7 +173,7 @@ one_report text work old old' new new' r r' e a b =
           alike o old old' l a.1 c.1;
     }
 
-pub one_message : (text : Bytes) (work i : ℕ) (old old' new new' : Bytes) (r r' : MessageResult) → length old ≡ length old'
+pub one_message : (text : Bytes) (work i : ℕ) (old old' new new' : Bytes) (r r' : Result ℕ MessageError) → length old ≡ length old'
     → Messages text work i old new r → Messages text work i old' new' r' → SameMessage new new' r r'
 one_message text work i old old' new new' r r' e a b =
     let o = message text work i (length old) in
@@ -189,7 +189,7 @@ pub one_name : (text : Bytes) (work i : ℕ) (r r' : NamePart) → Names text wo
 one_name text work i r r' a b = a.0 ∙ sym b.0
 
 -- ==== Demand 2, by proof
-pub demand_2 : (text : Bytes) (t : Tree) (work work' : ℕ) (old new : Bytes) (c : CheckResult) (m : MessageResult) → reading text work ≡ tree t → reading text work' ≡ tree t
+pub demand_2 : (text : Bytes) (t : Tree) (work work' : ℕ) (old new : Bytes) (c : Result (Maybe Record) Refused) (m : Result ℕ MessageError) → reading text work ≡ tree t → reading text work' ≡ tree t
     → Checks text work c → Messages text work' 0 old new m → Demand2 t old new c m
 demand_2 text t work work' old new c m e e' a b =
     record {
@@ -200,7 +200,7 @@ demand_2 text t work work' old new c m e e' a b =
 
 -- ==== Demand 3
 -- whatever the two work buffers and the output held: only their lengths are named, and both calls take the text as this tree
-pub demand_3 : (text : Bytes) (t : Tree) (work work' : ℕ) (old new : List ℕ) (r : ReportResult) (c : CheckResult) → reading text work ≡ tree t → reading text work' ≡ tree t
+pub demand_3 : (text : Bytes) (t : Tree) (work work' : ℕ) (old new : List ℕ) (r : Result ℕ ReportError) (c : Result (Maybe Record) Refused) → reading text work ≡ tree t → reading text work' ≡ tree t
     → Reports text work old new r → Checks text work' c → length (full_report t) ≤ length old → Demand3 t old new r c
 demand_3 text t work work' old new r c e e' a b h =
     let room : record_length * length (faults t) ≤ length old = subst (λ n. n ≤ length old) (records_length (faults t)) h in
@@ -211,9 +211,9 @@ demand_3 text t work work' old new r c e e' a b h =
     record {
       records = ap (take (length (full_report t))) out ∙ take-append_seam (full_report t) (drop (length (full_report t)) old);
       nothing_else = ap (drop (length (full_report t))) out ∙ drop-append_seam (full_report t) (drop (length (full_report t)) old);
-      count = report_says_lem r (R.Written (length (faults t))) (a.0 ∙ ap (λ (o : Outcome). o.answer) all);
+      count = report_says_lem r (Ok (length (faults t))) (a.0 ∙ ap (λ (o : Outcome). o.answer) all);
       once = each_fault_once t;
       order = in_order t;
-      accepts = (λ i. first_none (faults t) (sym (ap check_says i) ∙ says), λ i. check_says_lem c C.Accepted (says ∙ ap first_record i));
+      accepts = (λ i. first_none (faults t) (sym (ap check_says i) ∙ says), λ i. check_says_lem c (Ok None) (says ∙ ap first_record i));
       first = λ f fs i. says ∙ ap first_record i ∙ ap (λ ns. faulty (take record_length ns)) (sym (out ∙ ap (λ gs. over (records gs) old) i));
     }

@@ -13,8 +13,9 @@ use Rattle.spec_faults.proofs.FaultKinds.{FromEight, kinds}
 use Rattle.spec_faults.proofs.Theorems.{rule_holds}
 use Rattle.spec_answers.specs.Answers.{accepted, faulty, refused_at, first_record, check_of}
 use Rattle.serduzhap.specs.Calls.{check_says, Checks}
-use Rattle.serduzhap.specs.declared.CheckResult.{CheckResult}
-use Rattle.serduzhap.specs.declared.CheckResult.TheVariants as C
+use Rattle.std.specs.Prelude.{Option as Maybe, None, Result, Ok}
+use Rattle.spec_text.specs.declared.refusal.Refused.{Refused}
+use Rattle.report_records.specs.declared.Record.{Record}
 use Rattle.proof_calls.specs.Passed.{Passes, Passed}
 use Rattle.proof_calls.proofs.Agreed.{check_says_lem, refusal_range, one_reading}
 
@@ -54,15 +55,15 @@ passes_if text work = (
   λ p. sym (ap check_of p.read ∙ ap first_record ((rule_holds p.is).1 p.rule)),
 )
 
-pub passed : (text : Bytes) (work : ℕ) (c : CheckResult) → Checks text work c → Passed text work c
+pub passed : (text : Bytes) (work : ℕ) (c : Result (Maybe Record) Refused) → Checks text work c → Passed text work c
 passed text work c h =
     record {
-      accepted = (λ e. (passes_if text work).0 (sym (ap check_says e) ∙ h), λ p. check_says_lem c C.Accepted (h ∙ sym ((passes_if text work).1 p)));
-      refused = λ k n. (refused k n, λ e. check_says_lem c (C.Refused k n) (h ∙ ap check_of e));
+      accepted = (λ e. (passes_if text work).0 (sym (ap check_says e) ∙ h), λ p. check_says_lem c (Ok None) (h ∙ sym ((passes_if text work).1 p)));
+      refused = λ k n. (refused k n, λ e. h ∙ ap check_of e);
       not_passed = λ k n e p. one_reading e p.read;
       numbers = λ k n e. refusal_range text work (refused k n e);
       kinds = λ r e. kind_of (reading text work) (sym (ap check_says e) ∙ h);
     }
   where
-    refused : (k n : ℕ) → c ≡ C.Refused k n → reading text work ≡ refusal k n
-    refused k n e = refused_of (reading text work) (sym (ap check_says e) ∙ h)
+    refused : (k n : ℕ) → check_says c ≡ refused_at k n → reading text work ≡ refusal k n
+    refused k n e = refused_of (reading text work) (sym e ∙ h)

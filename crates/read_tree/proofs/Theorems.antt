@@ -1,7 +1,7 @@
 -- What the reader's contract gives whoever walks the rows: they do not depend on what the buffer held before, and two rows have one
 -- number exactly where they have one name.
-use Prim.Native.Nat.{ℕ, zero, suc, ◌<◌}
-use mathlib.Core.Path.{◌≡◌, refl, sym, ap, ◌∙◌, subst}
+use Prim.Native.Nat.{ℕ, ◌<◌}
+use mathlib.Core.Path.{◌≡◌, sym, ap, ◌∙◌, subst}
 use mathlib.Core.List.{List, [], map}
 use mathlib.Core.Logic.{◌↔◌}
 use lib.ListN.{length, get_or, take, length-map}
@@ -16,9 +16,9 @@ use Rattle.read_tree.specs.Laid.{Holds, in_numbers, Answers, name_in}
 use Rattle.read_tree.specs.declared.Tree.{Tree}
 use Rattle.std.specs.Prelude.{Result, Ok, Err}
 use Rattle.spec_text.specs.Numbers.{refusal_number}
-use Rattle.spec_text.specs.declared.refusal.Refusal.{Refusal}
-use Rattle.spec_text.specs.declared.refusal.Refusal.TheVariants.{TextTooLong, WorkTooShort, LineMissing, LineLeft, Malformed, NotDue, OverLimit}
 use Rattle.spec_text.specs.declared.refusal.Refused.{Refused}
+use Rattle.spec_text.proofs.Numbers.{one_refused}
+use native.Mathlib.Omega.{arith}
 
 -- the names by row
 abbrev pub names : List Row → List Bytes
@@ -29,41 +29,17 @@ abbrev pub Named : List Row → ℕ → Type 0
 Named rows i = get_or (names rows) i [] ≡ [] → ⊥
 
 -- ---- what an answer says in numbers is that answer alone
-of_number : ℕ → Refusal
-of_number zero = TextTooLong
-of_number (suc zero) = TextTooLong
-of_number (suc (suc zero)) = WorkTooShort
-of_number (suc (suc (suc zero))) = LineMissing
-of_number (suc (suc (suc (suc zero)))) = LineLeft
-of_number (suc (suc (suc (suc (suc zero))))) = Malformed
-of_number (suc (suc (suc (suc (suc (suc zero)))))) = NotDue
-of_number (suc (suc (suc (suc (suc (suc (suc n))))))) = OverLimit
-
-there_and_back : (w : Refusal) → of_number (refusal_number w) ≡ w
-unfolding of_number
-there_and_back TextTooLong = refl
-there_and_back WorkTooShort = refl
-there_and_back LineMissing = refl
-there_and_back LineLeft = refl
-there_and_back Malformed = refl
-there_and_back NotDue = refl
-there_and_back OverLimit = refl
-
-out_of_numbers : {A : Type 0} → Result A (ℕ × ℕ) → Result A Refused
-out_of_numbers (Ok a) = Ok a
-out_of_numbers (Err e) = Err (record { why = of_number e.0; line = e.1 })
-
-back : {A : Type 0} (r : Result A Refused) → out_of_numbers (in_numbers r) ≡ r
-unfolding out_of_numbers
-back (Ok a) = refl
-back (Err e) = ap (λ (w : Refusal). Err (record { why = w; line = e.line })) (there_and_back e.why)
-
-pub one_in_numbers : {A : Type 0} {r q : Result A Refused} → in_numbers r ≡ in_numbers q → r ≡ q
-one_in_numbers {A} {r} {q} e = sym (back r) ∙ (ap out_of_numbers e ∙ back q)
+pub one_in_numbers : {A : Type 0} (r q : Result A Refused) → in_numbers r ≡ in_numbers q → r ≡ q
+one_in_numbers (Ok a) (Ok b) e = cc
+one_in_numbers (Ok a) (Err d) e = let z : ◌≡◌ {A = ℕ} 0 1 = cc in absurd (omega arith)
+one_in_numbers (Err c) (Ok b) e = let z : ◌≡◌ {A = ℕ} 0 1 = cc in absurd (omega arith)
+one_in_numbers (Err c) (Err d) e =
+    let p : ◌≡◌ {A = ℕ × ℕ} (refusal_number c.why, c.line) (refusal_number d.why, d.line) = cc in
+    ap Err (one_refused (ap (λ (x : ℕ × ℕ). x.0) p) (ap (λ (x : ℕ × ℕ). x.1) p))
 
 -- ---- one answer for one text, whatever the buffers held
 pub one_answer : {text : Bytes} {x : Reading} {w v : List ℕ} {r q : Result Tree Refused} → Answers text x w r → Answers text x v q → r ≡ q
-one_answer a b = one_in_numbers (a.answer ∙ sym b.answer)
+one_answer a b = one_in_numbers _ _ (a.answer ∙ sym b.answer)
 
 module _ {text : Bytes} {rows : List Row} {w : List ℕ} (a : Holds text rows w) where
   inside : {i : ℕ} → i < length rows → i < length (names rows)

@@ -9,14 +9,12 @@ use Rattle.spec_text.specs.Bytes.{Bytes, Part, part_of}
 use Rattle.spec_text.specs.Tree.{Tree}
 use Rattle.spec_text.specs.Reading.{Reading, tree, refusal}
 use Rattle.spec_faults.specs.Faults.{Fault, faults, records}
-use Rattle.spec_answers.specs.Answers.{accepted, written, faulty, refused, first_record, check_of, Outcome, over, refusing, reported, report_of, wrote_if, message_or, message_in, nth_fault, name_of, name_in}
+use Rattle.spec_answers.specs.Answers.{written, faulty, refused, first_record, check_of, Outcome, over, refusing, reported, report_of, wrote_if, message_or, message_in, nth_fault, name_of, name_in}
 use Rattle.report_records.specs.RecordsModel.{numbers}
 use Rattle.report_messages.specs.MessagesModel.{record_message}
-use Rattle.std.specs.Prelude.{Ok, Err}
-use Rattle.spec_text.specs.Numbers.{refusal_number}
-use Rattle.spec_text.specs.declared.refusal.Refused.{Refused}
+use Rattle.std.specs.Prelude.{Ok}
 use Rattle.find_faults.specs.Found.{Finds, Kept, Listed}
-use Rattle.serduzhap.specs.Calls.{refusal_says, Gives, part_says}
+use Rattle.serduzhap.specs.Calls.{Gives, part_says}
 use Rattle.write_records.specs.WriteModel.{records_of, record_at}
 use Rattle.serduzhap.proofs.FaultWritten.{part_at, records_shown, name_shown, place_shown, message_shown, at_none, at_some}
 
@@ -29,13 +27,6 @@ no_part text = rw (le-leb 0 (length text) (omega arith), le-leb 0 (length text -
 
 -- ---- of a list of faults
 module _ (text : Bytes) (w : List ℕ) (fs : List Fault) (s : Listed text fs w) where
-  first_none : length fs ≡ 0 → accepted ≡ first_record fs
-  first_none = go fs
-    where
-      go : (gs : List Fault) → length gs ≡ 0 → accepted ≡ first_record gs
-      go [] e = refl
-      go (f ∷ gs) e = absurd (omega arith)
-
   first_some : (length fs ≡ 0 → ⊥) → faulty (numbers (record_at text w 0)) ≡ first_record fs
   first_some = go fs s
     where
@@ -80,9 +71,6 @@ module _ {text : Bytes} {x : Reading} {w : List ℕ} {n : ℕ} (f : Finds text x
   pub few : (length text < 65_537) × (n < 4_097)
   few = of_tree (λ n y. (length text < 65_537) × (n < 4_097)) (λ t k. k.1)
 
-  pub check_accepted : n ≡ 0 → accepted ≡ check_of x
-  check_accepted = of_tree (λ n y. n ≡ 0 → accepted ≡ check_of y) (λ t k. first_none text w (faults t) k.0)
-
   pub check_faulty : (n ≡ 0 → ⊥) → faulty (numbers (record_at text w 0)) ≡ check_of x
   check_faulty = of_tree (λ n y. (n ≡ 0 → ⊥) → faulty (numbers (record_at text w 0)) ≡ check_of y) (λ t k. first_some text w (faults t) k.0)
 
@@ -112,26 +100,3 @@ module _ {text : Bytes} {x : Reading} {w : List ℕ} {n : ℕ} (f : Finds text x
     pub name_some : i < n → Names text (record_at text w i).name (record_at text w i).name_len (name_in i x)
     name_some =
         of_tree (λ n y. i < n → Names text (record_at text w i).name (record_at text w i).name_len (name_in i y)) (λ t k. name_at_lem text w (faults t) k.0 i)
-
--- ---- a refusal is the text's
-module _ {text : Bytes} {x : Reading} {w : List ℕ} {e : Refused} (f : Finds text x w (Err e)) where
-  is_refused_lem : refusal (refusal_number e.why) e.line ≡ x
-  is_refused_lem = by x f
-    where
-      by : (y : Reading) → Finds text y w (Err e) → refusal (refusal_number e.why) e.line ≡ y
-      by (tree t) g = let z : ◌≡◌ {A = ℕ} 0 1 = cc g.answer in absurd (omega arith)
-      by (refusal k n) g =
-          let q : ◌≡◌ {A = ℕ × ℕ} (refusal_number e.why, e.line) (k, n) = cc g.answer in
-          ap (λ (p : ℕ × ℕ). refusal p.0 p.1) q
-
-  pub check_refused : refusal_says e ≡ check_of x
-  check_refused = ap check_of is_refused_lem
-
-  pub report_refused : (m : ℕ) (old : List ℕ) → Gives (report_of m x) old old (refusal_says e)
-  report_refused m old = subst (λ y. Gives (report_of m y) old old (refusal_says e)) is_refused_lem (refl, refl)
-
-  pub message_refused : (i m : ℕ) (old : Bytes) → Gives (message_in i m x) old old (refusal_says e)
-  message_refused i m old = subst (λ y. Gives (message_in i m y) old old (refusal_says e)) is_refused_lem (refl, refl)
-
-  pub name_refused : (i : ℕ) → Names text 0 0 (name_in i x)
-  name_refused i = subst (λ y. Names text 0 0 (name_in i y)) is_refused_lem (refl, no_part text)

@@ -50,6 +50,9 @@ pub struct NamePart {
     pub len: usize,
 }
 
+// Where there is no name.
+const NO_NAME: NamePart = NamePart { offset: 0, len: 0 };
+
 // Accepted, where there is no record; else that of the first fault.
 pub fn check(text: &[u8], work: &mut [u32]) -> Result<Option<Record>, Refused>
     ensures { Checks text.now (length work.old) result }
@@ -116,7 +119,8 @@ pub fn name_part(text: &[u8], work: &mut [u32], i: usize) -> NamePart
                 len: r.name_len,
             }
         }
-        _ => NamePart { offset: 0, len: 0 },
+        Ok(_) => NO_NAME, // there is no fault i
+        Err(_) => NO_NAME,
     }
 }
 

@@ -2,20 +2,6 @@
 ghost use Rattle.std.specs.Prelude.{◌≡◌};
 ghost use Rattle.spec_text.specs.Numbers.{refusal_number};
 
-pub const TEXT_TOO_LONG: usize = 1; // the text has over 65,536 bytes
-
-pub const WORK_TOO_SHORT: usize = 2; // the work buffer has under 16,384 numbers
-
-pub const LINE_MISSING: usize = 3; // the text ends and a line is due
-
-pub const LINE_LEFT: usize = 4; // a line is left and none is due
-
-pub const MALFORMED: usize = 5; // unknown word, wrong fields, bad name or number, no LF
-
-pub const NOT_DUE: usize = 6; // well formed, not due here
-
-pub const OVER_LIMIT: usize = 7; // over 4,096 lines, depth 64 or 16 parameters
-
 pub const OUTPUT_TOO_SHORT: usize = 16; // the report does not fit its output
 
 pub const NO_SUCH_FAULT: usize = 17; // there is no fault i

@@ -2,20 +2,6 @@
 ghost use Rattle.std.specs.Prelude.{◌≡◌};
 ghost use Rattle.spec_text.specs.Numbers.{sort_number};
 
-pub const TREE: usize = 0;
-
-pub const GLOBAL: usize = 1;
-
-pub const ELIF: usize = 2;
-
-pub const METHOD: usize = 3;
-
-pub const ATTR: usize = 4;
-
-pub const STMT: usize = 5;
-
-pub const EXPR: usize = 6;
-
 // Where a line is due.
 #[derive(Clone, Copy, PartialEq, Eq, Default)]
 pub enum Sort {

@@ -10,7 +10,7 @@
 
 ghost use Rattle.std.specs.Prelude.{◌<◌};
 
-use read_tree::Read;
+use read_tree::Tree;
 use std::{fmt, io};
 use test_frames::{Frame, Text};
 
@@ -67,12 +67,14 @@ fn sum_of(work: &[u32], lines: usize) -> u32 {
 fn read(rt: &impl Print, text: &[u8], work: &mut [u32]) -> io::Result<usize> {
     work.fill(u32::MAX);
     match read_tree::read_tree(text, work) {
-        Read::Tree { globals, lines } => {
+        Ok(Tree { globals, lines }) => {
             let sum = sum_of(work, lines);
             println!(rt; "tree\t{globals}\t{lines}\t{sum}")?;
             Ok(lines)
         }
-        Read::Refused { number, line } => {
+        Err(refused) => {
+            let number = refused.why.number();
+            let line = refused.line;
             println!(rt; "refused\t{number}\t{line}")?;
             Ok(0)
         }

@@ -5,8 +5,8 @@ use Rattle.spec_text.specs.Reading.{reading}
 use Rattle.serduzhap.proofs.Cases.{Names, name_none, name_some}
 use Rattle.serduzhap.proofs.name_part.Goals as goal
 
-pub returns-in_default : goal.returns-in_default
-returns-in_default c = name_none c.in-Ok.ensures c.args.i c.if-i-found.false
+pub returns-in-Ok-2 : goal.returns-in-Ok-2
+returns-in-Ok-2 c = name_none c.in-Ok.ensures c.args.i c.if-i-found.false
 
 pub returns-in-Ok : goal.returns-in-Ok
 returns-in-Ok c =
