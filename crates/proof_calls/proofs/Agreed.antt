@@ -50,7 +50,7 @@ count (refused k vs) = 0
 
 pub check_says_lem : (c d : Result (Maybe Record) Refused) → check_says c ≡ check_says d → c ≡ d
 check_says_lem (Ok None) (Ok None) e = refl
-check_says_lem (Ok (Some r)) (Ok (Some q)) e = rw (kind_again r.kind, kind_again q.kind) at (ap (λ a. Ok (Some (record_of a))) e)
+check_says_lem (Ok (Some r)) (Ok (Some q)) e = rw (kind_again r.kind, kind_again q.kind) at (ap {B = Result (Maybe Record) Refused} (λ a. Ok (Some (record_of a))) e)
 check_says_lem (Err r) (Err q) e =
     let a : refusal_number r.why ≡ refusal_number q.why = cc in
     let b : r.line ≡ q.line = cc in
