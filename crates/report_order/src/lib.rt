@@ -28,7 +28,8 @@ pub struct Entry {
     pub row: usize,
 }
 
-// What is around a row: the row after the outermost lambda, the outermost class, and the row after that; 0 where there is none.
+// What is around a row: the row after the outermost lambda, the outermost class, and the row after that.
+// Kept: 0 stands for none, since an end is only compared with a row, and none is before 0.
 #[derive(Clone, Copy)]
 pub struct Around {
     pub lambda: usize,

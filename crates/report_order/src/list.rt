@@ -11,7 +11,7 @@ use spec_text::line_kind;
 use work_rows::ROWS_MOST;
 
 // So many entries, in this buffer.
-// Kept: `few`, a bound on the count, is asked by each method: each adds to the count, so no invariant of the type can say it.
+// Kept: each method asks for a bound on the count, since each adds to it: no invariant of the type can say it.
 #[derive(Drop)]
 pub struct Entries<'a> {
     pub work: &'a mut [u32],
@@ -31,7 +31,7 @@ impl<'a> Entries<'a> {
     }
 
     // The kind of row p's line, and the row after the part that begins at row p.
-    // Kept: two methods that only read; after a call with `self.work` itself the check no longer knows what a method that writes has in it.
+    // Kept: in a method that writes, a call with `self.work` itself was tried: the proof then lost what the buffer holds.
     fn line_kind(&self, p: usize) -> usize
         ensures { result ≡ kind_at self.now.work.now p }
     {

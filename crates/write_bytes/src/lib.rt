@@ -49,7 +49,7 @@ impl<'a> Output<'a> {
     }
 
     // Pushes a number of at most so many digits.
-    // Kept: of `write!` a contract says what it wrote only to a String, on the heap; and Display writes any number of digits.
+    // Kept: a contract says what `write!` wrote only to a String, on the heap; and Display writes any number of digits.
     fn push_digits(&mut self, left: usize, n: usize)
         ensures { Pushed self.old (digits left n) self.new }
     {
