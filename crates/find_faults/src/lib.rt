@@ -24,7 +24,6 @@ pub fn find(text: &[u8], work: &mut [u32]) -> Result<usize, Refused>
 
 // The record of fault j.
 pub fn record_at(text: &[u8], work: &[u32], j: usize) -> Record
-    requires { j < 4294967296 }
     ensures { result ≡ record_of text.now work.now (entry_at work.now j) }
 {
     report_records::record_of(text, work, report_order::entry_at(work, j))

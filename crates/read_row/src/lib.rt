@@ -10,7 +10,6 @@ use spec_text::line_kind;
 
 // The cursor at the first parameter of row i, past the fields before the parameters.
 pub fn params(text: &[u8], work: &[u32], i: usize) -> Cursor
-    requires { i < 4294967296 }
     ensures parts { parts_from text.now result ≡ params_of text.now work.now i }
     ensures within { result.more ≡ true → result.at ≤ length text.now }
 {
@@ -49,7 +48,6 @@ fn line_start(text: &[u8], at: usize) -> usize
 // The line of row i.
 #[tactic(auto, unfolding(crate::specs::RowModel::line_of_row))]
 pub fn line_of_row(text: &[u8], work: &[u32], i: usize) -> Line
-    requires { i < 4294967296 }
     ensures { result ≡ line_of_row text.now work.now i }
 {
     read_line::line_at(text, line_start(text, work_rows::offset(work, i))).unwrap_or_default()

@@ -98,9 +98,9 @@ fn take_line(text: &[u8], work: &mut [u32], s: Progress, due: Due) -> Result<Pro
     let top = read_agenda::one_less(work, s.top, due);
     let children = read_words::children_of(
         line.kind,
-        work_rows::wide(line.count0),
-        work_rows::wide(line.count1),
-        work_rows::wide(line.count2),
+        line.count0 as usize,
+        line.count1 as usize,
+        line.count2 as usize,
     );
     let top = read_agenda::push_due(work, top, s.rows, children, due.levels.saturating_sub(1));
     Ok(Progress {
@@ -166,8 +166,8 @@ fn rest(text: &[u8], work: &mut [u32], first: Line) -> Result<Tree, Refused>
     requires is_first { First text.now first }
     ensures { Answers text.now (ended (after first.count0 first.count1 (rest_at text.now first.next 2))) work.new result }
 {
-    let globals = work_rows::wide(first.count0);
-    let stmts = work_rows::wide(first.count1);
+    let globals = first.count0 as usize;
+    let stmts = first.count1 as usize;
     read_names::clear(work);
     let top = read_agenda::push(
         work,

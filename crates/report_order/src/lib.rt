@@ -68,7 +68,6 @@ fn is_its_own_place(kind: FaultKind) -> bool
 // Whether one of the rows from `first` up to `rows` has a fault.
 #[tactic(auto, unfolding(crate::specs::OrderModel::any_slot))]
 pub fn any_fault(work: &[u32], first: usize, rows: usize) -> bool
-    requires { rows ≤ 4096 }
     ensures { result ≡ any_fault work.now first rows }
 {
     (first..rows).any(|i| work_marks::has_fault(work, i))

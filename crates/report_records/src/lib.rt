@@ -31,7 +31,6 @@ fn cut(n: usize) -> u32
 // The record of an entry.
 #[tactic(auto, unfolding(crate::specs::RecordsModel::record_of))]
 pub fn record_of(text: &[u8], work: &[u32], e: Entry) -> Record
-    requires { (e.of < 4294967296) × (e.row < 4294967296) }
     ensures { result ≡ record_of text.now work.now e }
 {
     let of = read_row::line_of_row(text, work, e.of);

@@ -2,22 +2,6 @@
 ghost use Rattle.std.specs.Prelude.{◌≡◌};
 ghost use Rattle.spec_faults.specs.Kinds.{kind_number, kind_by_number};
 
-pub const UNDEFINED_VARIABLE: usize = 8;
-
-pub const UNDEFINED_FUNCTION: usize = 9;
-
-pub const UNDEFINED_CAPTURE: usize = 10;
-
-pub const UNBOUND_VARIABLE: usize = 11;
-
-pub const UNBOUND_FUNCTION: usize = 12;
-
-pub const UNBOUND_CAPTURE: usize = 13;
-
-pub const INVALID_TARGET: usize = 14;
-
-pub const METHOD_WITHOUT_SELF: usize = 15;
-
 // The kind of a fault.
 #[derive(Clone, Copy, PartialEq, Eq)]
 pub enum FaultKind {

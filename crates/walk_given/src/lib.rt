@@ -33,7 +33,7 @@ fn define_globals(work: &mut [u32], s: ScopeStack, globals: usize)
 // Before the first statement of so many rows, of which so many are `global` lines.
 #[tactic(auto, unfolding(crate::specs::GivenModel::begun))]
 pub fn bind_given(text: &[u8], work: &mut [u32], s: ScopeStack, globals: usize, rows: usize)
-    requires { (globals ≤ 4096) × (rows ≤ 4096) × (16384 ≤ length work.old) }
+    requires { (rows ≤ 4096) × (16384 ≤ length work.old) }
     ensures { work.new ≡ begun text.now (top_of s) globals rows work.old }
 {
     work_marks::forget_marks(work, rows);

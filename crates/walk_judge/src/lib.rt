@@ -91,7 +91,6 @@ pub fn judge_read(work: &mut [u32], scope: &Scope, used: Use, name: usize, i: us
 
 // Whether the method at row i has no parameter, or another first one than `self`.
 pub fn lacks_self(text: &[u8], work: &[u32], i: usize) -> bool
-    requires { i < 4294967296 }
     ensures { result ≡ lacks_self (params_of text.now work.now i) }
 {
     let c = read_row::params(text, work, i);

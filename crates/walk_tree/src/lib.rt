@@ -170,7 +170,6 @@ fn walk_stmt(text: &[u8], work: &mut [u32], left: usize, s: &mut ScopeStack, i: 
 // A method has to have `self` as its first parameter.
 #[tactic(auto, unfolding(crate::specs::WalkModel::method_at))]
 fn judge_method(text: &[u8], work: &mut [u32], i: usize)
-    requires { i < 4294967296 }
     ensures { work.new ≡ method_at text.now i work.old }
 {
     if walk_judge::lacks_self(text, work, i) {
@@ -257,7 +256,7 @@ fn walk_stmts(
 // or 0.
 #[tactic(auto, unfolding(crate::specs::WalkModel::walked))]
 pub fn walk(text: &[u8], work: &mut [u32], globals: usize, rows: usize)
-    requires { (globals ≤ 4096) × (rows ≤ 4096) × (16384 ≤ length work.old) }
+    requires { (rows ≤ 4096) × (16384 ≤ length work.old) }
     ensures { work.new ≡ walked text.now globals rows work.old }
 {
     let mut s = ScopeStack::new(rows);

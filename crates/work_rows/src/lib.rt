@@ -29,13 +29,6 @@ pub enum SameName {
     Link(Option<usize>),
 }
 
-// A number of the buffer, as an index.
-pub fn wide(x: u32) -> usize
-    ensures { (result ≡ x) × (result < 4294967296) }
-{
-    x as usize
-}
-
 // The number at i, and 0 past the end.
 pub fn get(work: &[u32], i: usize) -> usize
     ensures { (result ≡ get_or work.now i 0) × (result < 4294967296) }

@@ -9,7 +9,7 @@ use report_records::RECORD;
 
 // Writes the records of so many faults.
 pub fn write_records(text: &[u8], work: &[u32], out: &mut [u32], count: usize)
-    requires { (7 * count ≤ length out.old) × (count < 4294967296) }
+    requires { 7 * count ≤ length out.old }
     ensures { out.new ≡ over (records_of text.now work.now 0 count) out.old }
 {
     for j in 0..count {

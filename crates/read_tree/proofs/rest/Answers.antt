@@ -1,5 +1,5 @@
 -- The agenda is laid out from the counts, and the turns lead to the reading's answer.
-use Rattle.std.proofs.Common.{Ok, Err}
+use Rattle.std.proofs.Common.{Ok, Err, refl}
 use Rattle.std.proofs.lemmas.Result.{err_from_is_err_and}
 use Rattle.read_tree.proofs.Answered.{rest_answers}
 use Rattle.read_tree.proofs.rest.Goals as goal
@@ -8,11 +8,11 @@ pub returns-in_err-end : goal.returns-in_err-end
 returns-in_err-end c =
     let h = c.requires in
     let p = err_from_is_err_and c.from_residual.result c.from_residual.ensures.1 in
-    rw (p.1, p.2) (rest_answers _ h.in_limits.0 h.in_limits.1 h.is_first c.wide-globals.ensures.0 c.wide-stmts.ensures.0 c.clear.ensures c.push-top.ensures.0 c.push-top-2.ensures.0
+    rw (p.1, p.2) (rest_answers _ h.in_limits.0 h.in_limits.1 h.is_first refl refl c.clear.ensures c.push-top.ensures.0 c.push-top-2.ensures.0
     _ (Err c.in_err-end.field-0.0) c.in_err-end.ensures.turns_taken)
 
 pub returns : goal.returns
 returns c =
     let h = c.requires in
-    rw c.answer.ensures (rest_answers _ h.in_limits.0 h.in_limits.1 h.is_first c.wide-globals.ensures.0 c.wide-stmts.ensures.0 c.clear.ensures
+    rw c.answer.ensures (rest_answers _ h.in_limits.0 h.in_limits.1 h.is_first refl refl c.clear.ensures
     c.push-top.ensures.0 c.push-top-2.ensures.0 _ (Ok c.in_ok-end.end) c.in_ok-end.ensures.turns_taken)
