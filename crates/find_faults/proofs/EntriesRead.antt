@@ -1,10 +1,5 @@
 -- Entries that are written where the stamps were: each is read there again, and what stands before them stays. So a row's line is read as before.
-use Prim.Native.Nat.{ℕ, zero, suc, ◌+◌, ◌%◌, ◌≤◌, ◌<◌}
-use native.Mathlib.Omega.{arith}
-use mathlib.Core.Path.{◌≡◌, refl, ap, ◌∙◌}
-use mathlib.Core.List.{List, [], ◌∷◌}
-use lib.ListN.{length, get_or, length-set}
-use lib.Seq.{get_or-set_same, get_or-set_other}
+use Rattle.std.proofs.Common.{ℕ, zero, suc, ◌+◌, ◌%◌, ◌≤◌, ◌<◌, arith, ◌≡◌, refl, ap, ◌∙◌, List, [], ◌∷◌, length, get_or, length-set, get_or-set_same, get_or-set_other}
 use Rattle.spec_text.specs.Bytes.{Bytes}
 use Rattle.work_rows.specs.Layout.{put}
 use Rattle.report_order.specs.OrderModel.{entry_base, stored}

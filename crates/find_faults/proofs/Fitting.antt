@@ -1,15 +1,8 @@
 -- Each fault of a tree fits its text: its name and its class name are parts of the text of at most 63 bytes, or absent; its kind and its span
 -- are within their limits. For what a fault shows stands in rows (`Right`), and each row's line is read again where it starts.
-use Prim.Native.Nat.{ℕ, zero, suc, ◌-◌, ◌≤◌, ◌<◌}
-use native.Mathlib.Omega.{arith}
+use Rattle.std.proofs.Common.{ℕ, zero, suc, ◌-◌, ◌≤◌, ◌<◌, arith, ◌≡◌, refl, sym, subst, Bool, true, false, not, ◌||◌, List, [], ◌∷◌, eqb, length, eqb-true, le-leb, leb-true}
 use native.Mathlib.Decide.{ℕ_discrete}
-use mathlib.Core.Path.{◌≡◌, refl, sym, subst}
-use mathlib.Core.Bool.{Bool, true, false, not, ◌||◌}
-use mathlib.Core.List.{List, [], ◌∷◌}
 use mathlib.Core.Option.{some}
-use lib.Dec.{eqb}
-use lib.ListN.{length}
-use borrow.Author.Tests.{eqb-true, le-leb, leb-true}
 use Rattle.spec_text.specs.Bytes.{Bytes, Part, no_part, all, is_name, is_name_byte, is_digit}
 use Rattle.spec_text.specs.Tree.{Tree, len_ss, first_line}
 use Rattle.spec_text.specs.Reading.{tree, reading}

@@ -1,11 +1,6 @@
 -- The whole: a text that is a tree is read into rows, the walk leaves the kind of each fault in the slot of its row, and the entries listed from
 -- the slots show the faults. What the walk keeps of the rows is what entries and records are read by.
-use Prim.Native.Nat.{ℕ, ◌≤◌, ◌<◌}
-use native.Mathlib.Omega.{arith}
-use mathlib.Core.Path.{◌≡◌, refl, sym, ap, subst}
-use mathlib.Core.Bool.{false}
-use mathlib.Core.List.{List, []}
-use lib.ListN.{length}
+use Rattle.std.proofs.Common.{ℕ, ◌≤◌, ◌<◌, arith, ◌≡◌, refl, sym, ap, subst, false, List, [], length, Ok}
 use Rattle.spec_text.specs.Bytes.{Bytes}
 use Rattle.spec_text.specs.Tree.{Tree, len_ss}
 use Rattle.spec_text.specs.Reading.{Reading, tree, refusal, reading}
@@ -16,7 +11,6 @@ use Rattle.spec_faults.proofs.Theorems.{at_most_lines}
 use Rattle.work_rows.specs.Rows.{rows_t}
 use Rattle.read_tree.specs.Laid.{Holds, Answers}
 use Rattle.read_tree.specs.declared.Tree.{Tree as Counts}
-use Rattle.std.specs.Prelude.{Ok}
 use Rattle.work_marks.proofs.Writes.{Words, Kept}
 use Rattle.read_row.specs.RowModel.{line_of_row}
 use Rattle.read_row.specs.Worded.{WordedSs}

@@ -1,14 +1,8 @@
 -- Entries that show faults, one for one, written into a buffer that holds the rows of a text: each is read as a record of the seven numbers of
 -- its fault. For the lines of its two rows are read again as they are, and the record takes from them what the fault shows.
-use Prim.Native.Nat.{ℕ, zero, suc, ◌≤◌, ◌<◌}
-use native.Mathlib.Omega.{arith}
-use mathlib.Core.Path.{◌≡◌, refl, sym, ap, ◌∙◌, subst}
-use mathlib.Core.Bool.{Bool, true, false, cond}
-use mathlib.Core.List.{List}
+use Rattle.std.proofs.Common.{ℕ, zero, suc, ◌≤◌, ◌<◌, arith, ◌≡◌, refl, sym, ap, ◌∙◌, subst, Bool, true, false, cond, List, eqb, length, get_or, eqb-true}
 use mathlib.Core.Option.{some}
-use lib.Dec.{eqb}
-use lib.ListN.{length, get_or}
-use borrow.Author.Tests.{eqb-true, eqb-false}
+use borrow.Author.Tests.{eqb-false}
 use Rattle.spec_text.specs.Bytes.{Bytes, Part}
 use Rattle.spec_text.specs.Tree.{Line}
 use Rattle.spec_faults.specs.declared.fault_kind.FaultKind.{FaultKind}

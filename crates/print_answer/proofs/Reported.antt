@@ -1,13 +1,9 @@
 -- The lines of a report's records are the lines of its faults: the numbers at seven times j are those of the j-th fault, and the parts of the
 -- text that they show are the fault's names. So what `print` pushes is what is printed.
-use Prim.Native.Nat.{ℕ, suc, ◌+◌, ◌*◌, ◌<◌}
-use native.Mathlib.Omega.{arith}
-use native.Mathlib.Nat.{zero-add, sub-zero}
-use mathlib.Core.Path.{◌≡◌, refl, sym, ap, ◌∙◌}
-use mathlib.Core.List.{List, [], ◌∷◌, ◌++◌, append_assoc}
+use Rattle.std.proofs.Common.{ℕ, suc, ◌+◌, ◌*◌, ◌<◌, arith, zero-add, ◌≡◌, refl, sym, ap, ◌∙◌, List, [], ◌∷◌, ◌++◌, append_assoc, length, drop, length-append, get_or-append-add}
+use native.Mathlib.Nat.{sub-zero}
 use mathlib.Core.Option.{some}
-use lib.ListN.{length, drop, length-append}
-use lib.Seq.{get_or-append-add, get_or-append_seam}
+use lib.Seq.{get_or-append_seam}
 use Rattle.spec_text.specs.Bytes.{Bytes}
 use Rattle.spec_text.specs.Reading.{shortest_work}
 use Rattle.spec_faults.specs.Kinds.{kind_by_number}

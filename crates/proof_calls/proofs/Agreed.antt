@@ -1,14 +1,7 @@
 -- What the theorems share: an answer says which case of the code's it is, and the answers of the definitions by cases of the text.
-use Prim.Native.Nat.{ℕ, zero, suc, ◌*◌, ◌<◌, ◌≤◌}
-use native.Mathlib.Omega.{arith}
-use mathlib.Core.Path.{◌≡◌, refl, sym, ap, ◌∙◌, subst}
-use mathlib.Core.Bool.{Bool, true, false}
-use mathlib.Core.List.{List, [], ◌∷◌}
+use Rattle.std.proofs.Common.{ℕ, zero, suc, ◌*◌, ◌<◌, ◌≤◌, arith, ◌≡◌, refl, sym, ap, ◌∙◌, subst, Bool, true, false, List, [], ◌∷◌, leb, ltb, length, get_or, take, drop, ltb-true, ltb-false, leb-true, None, Some, Result, Ok, Err}
 use mathlib.Core.Option.{Option, none, some}
-use lib.Dec.{leb, ltb}
-use lib.ListN.{length, get_or, take, drop}
 use lib.Seq.{take-append_seam}
-use borrow.Author.Tests.{ltb-true, ltb-false, leb-true}
 use Rattle.spec_text.specs.Bytes.{Bytes, between}
 use Rattle.spec_text.specs.Tree.{Tree}
 use Rattle.spec_text.specs.Reading.{Reading, tree, refusal, reading}
@@ -22,7 +15,7 @@ use Rattle.spec_answers.specs.Answers.{Answer, accepted, written, faulty, refuse
 use Rattle.spec_answers.proofs.Theorems.{records_length}
 use Rattle.report_records.specs.declared.Record.{Record}
 use Rattle.serduzhap.specs.Calls.{check_says, report_says, message_says}
-use Rattle.std.specs.Prelude.{Option as Maybe, None, Some, Result, Ok, Err}
+use Rattle.std.specs.Prelude.{Option as Maybe}
 use Rattle.spec_text.specs.Numbers.{refusal_number}
 use Rattle.spec_text.specs.declared.refusal.Refusal.{Refusal}
 use Rattle.spec_text.specs.declared.refusal.Refusal.TheVariants.{TextTooLong, WorkTooShort, LineMissing, LineLeft, Malformed, NotDue, OverLimit}
@@ -180,12 +173,6 @@ pub alike : (o : Outcome) (old old' : List ℕ) {new new' : List ℕ} {n : ℕ} 
 alike o old old' {n = n} e a b = ap (take n) a ∙ begins o.writes old e ∙ sym (begins o.writes old' e) ∙ sym (ap (take n) b)
 
 -- ---- a reading is one tree or one refusal
-pub one_tree : {t t' : Tree} → tree t ≡ tree t' → t ≡ t'
-one_tree e = cc
-
-pub one_refusal : {j k m n : ℕ} → refusal j m ≡ refusal k n → (j ≡ k) × (m ≡ n)
-one_refusal e = (cc, cc)
-
 pub one_reading : {x : Reading} {k n : ℕ} {t : Tree} → x ≡ refusal k n → x ≡ tree t → ⊥
 one_reading e f = let z : ◌≡◌ {A = ℕ} 0 1 = cc in omega arith
 

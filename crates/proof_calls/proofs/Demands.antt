@@ -1,12 +1,6 @@
 -- The demands, as theorems about the public calls: demand 1 for each call, demands 2 and 3.
-use Prim.Native.Nat.{ℕ, ◌*◌, ◌≤◌}
-use native.Mathlib.Omega.{arith}
-use mathlib.Core.Path.{◌≡◌, refl, sym, ap, ap₂, ◌∙◌, subst}
-use mathlib.Core.Logic.{◌⊎◌, inl, inr}
-use mathlib.Core.List.{List, [], ◌∷◌}
-use lib.ListN.{length, take, drop}
+use Rattle.std.proofs.Common.{ℕ, ◌*◌, ◌≤◌, arith, ◌≡◌, refl, sym, ap, ap₂, ◌∙◌, subst, ◌⊎◌, inl, inr, List, [], ◌∷◌, length, take, drop, lt-ltb, le-ltb, None, Result, Ok, Err}
 use lib.Seq.{take-append_seam, drop-append_seam}
-use borrow.Author.Tests.{lt-ltb, le-ltb}
 use Rattle.spec_text.specs.Bytes.{Bytes}
 use Rattle.spec_text.specs.Tree.{Tree}
 use Rattle.spec_text.specs.Reading.{Reading, tree, refusal, reading}
@@ -19,7 +13,7 @@ use Rattle.spec_answers.specs.Answers.{written, faulty, refused, refused_at, fir
 use Rattle.spec_answers.specs.RustAnswers.{SpanOf}
 use Rattle.spec_answers.proofs.Theorems.{records_length, rust_check, rust_message}
 use Rattle.serduzhap.specs.Calls.{check_says, Checks, Gives, report_says, Reports, message_says, Messages, part_says, Names}
-use Rattle.std.specs.Prelude.{Option as Maybe, None, Result, Ok, Err}
+use Rattle.std.specs.Prelude.{Option as Maybe}
 use Rattle.spec_text.specs.declared.refusal.Refused.{Refused}
 use Rattle.serduzhap.specs.declared.ReportError.{ReportError}
 use Rattle.serduzhap.specs.declared.MessageError.{MessageError}

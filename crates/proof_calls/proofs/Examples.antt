@@ -1,7 +1,5 @@
 -- Two scripts: one that passes, and one that does not. So the rule is neither empty nor full.
-use Prim.Native.Nat.{ℕ}
-use native.Mathlib.Omega.{arith}
-use mathlib.Core.Path.{◌≡◌, refl}
+use Rattle.std.proofs.Common.{ℕ, arith, ◌≡◌, refl}
 use Rattle.spec_text.specs.Bytes.{Bytes, bytes}
 use Rattle.proof_calls.specs.Passed.{Passes}
 use Rattle.proof_calls.proofs.Passed.{passes_if}

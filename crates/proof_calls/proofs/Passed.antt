@@ -1,9 +1,5 @@
 -- What is true of every script that check passes: the theorem, for every text and every length of the work buffer.
-use Prim.Native.Nat.{ℕ, ◌≤◌}
-use native.Mathlib.Omega.{arith}
-use mathlib.Core.Path.{◌≡◌, refl, sym, ap, ◌∙◌}
-use mathlib.Core.Logic.{◌↔◌}
-use mathlib.Core.List.{List, [], ◌∷◌}
+use Rattle.std.proofs.Common.{ℕ, ◌≤◌, arith, ◌≡◌, refl, sym, ap, ◌∙◌, ◌↔◌, List, [], ◌∷◌, None, Result, Ok}
 use Rattle.spec_text.specs.Bytes.{Bytes}
 use Rattle.spec_text.specs.Tree.{Tree}
 use Rattle.spec_text.specs.Reading.{Reading, tree, refusal, reading}
@@ -13,7 +9,7 @@ use Rattle.spec_faults.proofs.FaultKinds.{FromEight, kinds}
 use Rattle.spec_faults.proofs.Theorems.{rule_holds}
 use Rattle.spec_answers.specs.Answers.{accepted, faulty, refused_at, first_record, check_of}
 use Rattle.serduzhap.specs.Calls.{check_says, Checks}
-use Rattle.std.specs.Prelude.{Option as Maybe, None, Result, Ok}
+use Rattle.std.specs.Prelude.{Option as Maybe}
 use Rattle.spec_text.specs.declared.refusal.Refused.{Refused}
 use Rattle.report_records.specs.declared.Record.{Record}
 use Rattle.proof_calls.specs.Passed.{Passes, Passed}

@@ -1,6 +1,5 @@
 -- The theorem about the agenda: turns lead from a text's first line to where the definition of reading leads.
-use Prim.Native.Nat.{ℕ, pred}
-use mathlib.Core.List.{[], map}
+use Rattle.std.proofs.Common.{ℕ, pred, [], map}
 use Rattle.spec_text.specs.Tree.{Tree}
 use Rattle.spec_text.specs.Reading.{Rest, Read, deepest}
 use Rattle.work_rows.specs.Rows.{rows_t, global_row}

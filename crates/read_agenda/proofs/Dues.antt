@@ -1,9 +1,6 @@
 -- What is due on the agenda is what a reader reads: turns take it from the agenda, and write the rows of what is read after those before.
 -- By induction over the levels left and the counts, reader by reader, as the definition of reading goes.
-use Prim.Native.Nat.{ℕ, zero, suc, ◌*◌}
-use mathlib.Core.Path.{refl, sym, ap, ◌∙◌}
-use mathlib.Core.List.{List, [], ◌∷◌, ◌++◌, map, append_assoc, append-nil}
-use lib.ListN.{length, get_or}
+use Rattle.std.proofs.Common.{ℕ, zero, suc, ◌*◌, refl, sym, ap, ◌∙◌, List, [], ◌∷◌, ◌++◌, map, append_assoc, append-nil, length, get_or}
 use Rattle.spec_text.specs.Tree.{Line, Expr, Stmt, Stmts, len_e, len_ss}
 use Rattle.spec_text.specs.Lines.{StmtForm, ExprForm, Form, as_sort}
 use Rattle.spec_text.specs.Reading.{Rest, Read, line, exprs, attrs, stmts, methods, expr_children, expr, stmt_children, elif_line, stmt, elif, methods_at, attrs_at, globals}

@@ -1,6 +1,5 @@
 -- A general law: of tests one after the other, the first that holds decides.
-use mathlib.Core.Path.{◌≡◌}
-use mathlib.Core.Bool.{Bool, true, false, cond}
+use Rattle.std.proofs.Common.{◌≡◌, Bool, true, false, cond}
 
 -- ---- a test holds, or fails and the next one decides
 pub holds : {A : Type 0} {t : Bool} (a b : A) {x : A} → t ≡ true → x ≡ a → x ≡ cond t a b

@@ -1,14 +1,8 @@
 -- One line: where a reader reads a line for what it makes of its form, a turn reads it for its sort. Both are refused alike, or get the same line.
 -- By the tests of `line`, one after the other; what a `global` line holds is found in the table of words.
-use Prim.Native.Nat.{ℕ, suc, ◌+◌}
-use native.Mathlib.Omega.{arith}
-use mathlib.Core.Path.{◌≡◌, refl, ap, subst}
-use mathlib.Core.Bool.{Bool, true, false, cond, not, ◌&&◌, false≢true}
-use mathlib.Core.List.{List, [], ◌∷◌, ◌++◌}
+use Rattle.std.proofs.Common.{ℕ, suc, ◌+◌, arith, ◌≡◌, refl, ap, subst, Bool, true, false, cond, not, ◌&&◌, List, [], ◌∷◌, ◌++◌, eqb, length, drop, drop_of_length-le, eqb-true}
+use mathlib.Core.Bool.{false≢true}
 use mathlib.Core.Option.{Option, none, some}
-use lib.Dec.{eqb}
-use lib.ListN.{length, drop, drop_of_length-le}
-use borrow.Author.Tests.{eqb-true}
 use Rattle.spec_text.specs.Bytes.{Bytes, Part, same}
 use Rattle.spec_text.specs.Tree.{Line}
 use Rattle.spec_text.specs.Lines.{Form, Word, words, Cut, cut, Parsed, well_formed, parsed, line_of, parse, sort_of}

@@ -1,9 +1,6 @@
 -- Turn after turn: where turns lead is passed on along the agenda as a reading is passed on by `and_then`.
 -- `Goes s P x`: turns lead from s to `P a r` where the reading x gets a and leaves r, and to x's refusal where it is refused.
-use Prim.Native.Nat.{ℕ}
-use mathlib.Core.Path.{◌≡◌, refl, ap, subst}
-use mathlib.Core.List.{List, [], ◌∷◌, ◌++◌, append_assoc}
-use lib.ListN.{length}
+use Rattle.std.proofs.Common.{ℕ, ◌≡◌, refl, ap, subst, List, [], ◌∷◌, ◌++◌, append_assoc, length}
 use Rattle.spec_text.specs.Tree.{Line}
 use Rattle.spec_text.specs.Reading.{Rest, Read, got, refused, and_then}
 use Rattle.work_rows.specs.Rows.{Row, row}

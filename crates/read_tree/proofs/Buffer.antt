@@ -1,15 +1,10 @@
 -- What the work buffer holds while the text is read: the rows written so far, and the agenda, an entry a number. A push and a pop keep
 -- both: the rows and the names stand below the agenda, and an entry stands above those under it.
 -- The agenda is short: over k entries there are lines due only with d levels left where k + 8 * d is at most 514.
-use Prim.Native.Nat.{ℕ, zero, suc, ◌+◌, ◌-◌, ◌*◌, ◌/◌, ◌%◌, ◌≤◌, ◌<◌}
-use native.Mathlib.Omega.{arith}
-use native.Mathlib.Nat.{mod-eq_of_lt}
-use mathlib.Core.Path.{◌≡◌, refl, sym, ap, ◌∙◌, subst}
-use mathlib.Core.List.{List, [], ◌∷◌}
-use mathlib.Core.Logic.{inr}
-use lib.ListN.{length, get_or, set, length-map}
-use lib.Seq.{get_or-set_same, get_or-set_other, take-set-le}
-use borrow.Author.Tests.{ne_eqb, le-leb, lt-leb}
+use Rattle.std.proofs.Common.{ℕ, zero, suc, ◌+◌, ◌-◌, ◌*◌, ◌/◌, ◌%◌, ◌≤◌, ◌<◌, arith, mod-eq_of_lt, ◌≡◌, refl, sym, ap, ◌∙◌, subst, List, [], ◌∷◌, inr, length, get_or, set, get_or-set_same, get_or-set_other, ne_eqb, le-leb}
+use lib.ListN.{length-map}
+use lib.Seq.{take-set-le}
+use borrow.Author.Tests.{lt-leb}
 use Rattle.spec_text.specs.Bytes.{Bytes}
 use Rattle.spec_text.proofs.Lists.{All}
 use Rattle.work_rows.specs.Layout.{put, name_base}

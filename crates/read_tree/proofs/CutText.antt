@@ -1,13 +1,6 @@
 -- The fields of a line in the text: each is the field that a cursor meets at its offset, and the next line starts after the first LF.
 -- By induction over the bytes, as `cut` goes.
-use Prim.Native.Nat.{ℕ, suc, ◌-◌, ◌≤◌, ◌<◌}
-use native.Mathlib.Omega.{arith}
-use mathlib.Core.Path.{◌≡◌, refl, subst}
-use mathlib.Core.Bool.{Bool, true, false}
-use mathlib.Core.List.{List, [], ◌∷◌}
-use lib.Dec.{eqb}
-use lib.ListN.{length, drop, length-drop}
-use borrow.Author.Tests.{le-leb}
+use Rattle.std.proofs.Common.{ℕ, suc, ◌-◌, ◌≤◌, ◌<◌, arith, ◌≡◌, refl, subst, Bool, true, false, List, [], ◌∷◌, eqb, length, drop, length-drop, le-leb}
 use Rattle.spec_text.specs.Bytes.{Bytes, Part, part_of}
 use Rattle.spec_text.specs.Lines.{cut}
 use Rattle.spec_text.proofs.Lists.{All, all_nil, all_cons, next_of}

@@ -1,15 +1,7 @@
 -- The first line: what the code's tests of it say of the whole reading.
-use Prim.Native.Nat.{ℕ, ◌≤◌}
-use mathlib.Core.Path.{◌≡◌, refl, sym, ap, subst, ◌∙◌}
-use mathlib.Core.Bool.{Bool, true, false}
-use mathlib.Core.List.{List}
-use lib.Dec.{ltb}
-use lib.ListN.{length}
-use native.Mathlib.Omega.{arith}
-use Rattle.std.specs.Prelude.{Result, Ok, Err}
+use Rattle.std.proofs.Common.{ℕ, ◌≤◌, ◌≡◌, refl, sym, ap, subst, ◌∙◌, Bool, true, false, List, ltb, length, arith, Result, Ok, Err, le-ltb}
 use Rattle.spec_text.specs.Numbers.{refusal_number}
 use Rattle.spec_text.specs.declared.refusal.Refused.{Refused}
-use borrow.Author.Tests.{le-ltb}
 use Rattle.spec_text.specs.Bytes.{Bytes}
 use Rattle.spec_text.specs.Tree.{Tree}
 use Rattle.spec_text.specs.Lines.{Form, count_at}

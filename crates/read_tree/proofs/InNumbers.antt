@@ -1,7 +1,5 @@
 -- What the steps of the functions make together, in the numbers of the work buffer.
-use Prim.Native.Nat.{ℕ, ◌+◌, ◌/◌, ◌%◌, ◌<◌}
-use native.Mathlib.Omega.{arith}
-use mathlib.Core.Path.{◌≡◌, ap, ◌∙◌}
+use Rattle.std.proofs.Common.{ℕ, ◌+◌, ◌/◌, ◌%◌, ◌<◌, arith, ◌≡◌, ap, ◌∙◌}
 use Rattle.spec_text.specs.Bytes.{Bytes}
 use Rattle.spec_text.specs.Numbers.{sort_number}
 use Rattle.spec_text.specs.declared.sort.Sort.{Sort}

@@ -1,11 +1,5 @@
 -- Where lines start: one line end more is found from where the ones before it lead. By induction over the bytes.
-use Prim.Native.Nat.{ℕ, zero, suc, ◌+◌}
-use native.Mathlib.Omega.{arith}
-use mathlib.Core.Path.{◌≡◌, refl, ap, ◌∙◌}
-use mathlib.Core.Bool.{Bool, true, false}
-use mathlib.Core.List.{[], ◌∷◌}
-use lib.Dec.{eqb}
-use lib.ListN.{drop}
+use Rattle.std.proofs.Common.{ℕ, zero, suc, ◌+◌, arith, ◌≡◌, refl, ap, ◌∙◌, Bool, true, false, [], ◌∷◌, eqb, drop}
 use Rattle.spec_text.specs.Bytes.{Bytes}
 use Rattle.read_tree.specs.Laid.{skip}
 

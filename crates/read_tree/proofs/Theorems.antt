@@ -1,10 +1,7 @@
 -- What the reader's contract gives whoever walks the rows: they do not depend on what the buffer held before, and two rows have one
 -- number exactly where they have one name.
-use Prim.Native.Nat.{ℕ, ◌<◌}
-use mathlib.Core.Path.{◌≡◌, sym, ap, ◌∙◌, subst}
-use mathlib.Core.List.{List, [], map}
-use mathlib.Core.Logic.{◌↔◌}
-use lib.ListN.{length, get_or, take, length-map}
+use Rattle.std.proofs.Common.{ℕ, ◌<◌, ◌≡◌, sym, ap, ◌∙◌, subst, List, [], map, ◌↔◌, length, get_or, take, Result, Ok, Err, arith}
+use lib.ListN.{length-map}
 use Rattle.spec_text.specs.Bytes.{Bytes}
 use Rattle.spec_text.specs.Reading.{Reading}
 use Rattle.work_rows.specs.Layout.{offset_at, number_at}
@@ -14,11 +11,9 @@ use Rattle.read_names.proofs.Theorems.{same_number, lookup_earliest}
 use Rattle.work_rows.specs.Rows.{Row}
 use Rattle.read_tree.specs.Laid.{Holds, in_numbers, Answers, name_in}
 use Rattle.read_tree.specs.declared.Tree.{Tree}
-use Rattle.std.specs.Prelude.{Result, Ok, Err}
 use Rattle.spec_text.specs.Numbers.{refusal_number}
 use Rattle.spec_text.specs.declared.refusal.Refused.{Refused}
 use Rattle.spec_text.proofs.Numbers.{one_refused}
-use native.Mathlib.Omega.{arith}
 
 -- the names by row
 abbrev pub names : List Row → List Bytes

@@ -1,15 +1,7 @@
 -- A row is written after the others, and a row is closed: the work buffer holds the rows so changed, and the agenda as it was.
-use Prim.Native.Nat.{ℕ, zero, suc, ◌+◌, ◌-◌, ◌*◌, ◌%◌, ◌≤◌, ◌<◌}
-use native.Mathlib.Omega.{arith}
-use native.Mathlib.Nat.{mod-eq_of_lt}
-use mathlib.Core.Path.{◌≡◌, refl, sym, ap, ◌∙◌, subst}
-use mathlib.Core.Bool.{Bool, true, false}
-use mathlib.Core.List.{List, [], ◌∷◌, ◌++◌, map}
-use mathlib.Core.Logic.{inl, inr}
-use lib.ListN.{length, get_or, set, take, length-append, length-map, length-set, length-take, get_or-append}
-use lib.Seq.{get_or-set_other, get_or-take, take-suc, take-set-lt, get_or-append_seam, ext_get_or}
-use lib.Dec.{ltb}
-use borrow.Author.Tests.{eq-eqb, ne_eqb, ltb-true, ltb-false}
+use Rattle.std.proofs.Common.{ℕ, zero, suc, ◌+◌, ◌-◌, ◌*◌, ◌%◌, ◌≤◌, ◌<◌, arith, mod-eq_of_lt, ◌≡◌, refl, sym, ap, ◌∙◌, subst, Bool, true, false, List, [], ◌∷◌, ◌++◌, map, inl, inr, length, get_or, set, take, length-append, length-set, length-take, get_or-set_other, get_or-take, take-suc, ext_get_or, ltb, eq-eqb, ne_eqb, ltb-true, ltb-false}
+use lib.ListN.{length-map, get_or-append}
+use lib.Seq.{take-set-lt, get_or-append_seam}
 use Rattle.spec_text.specs.Bytes.{Bytes, part_of}
 use Rattle.spec_text.specs.Tree.{Line}
 use Rattle.spec_text.specs.Lines.{Parsed}

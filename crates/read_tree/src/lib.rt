@@ -1,5 +1,5 @@
-// Reads a tree text into rows, or refuses it. An agenda in the work buffer says which lines are due, so nothing recurses: each turn
-// takes one line, writes its row, and puts the lines due below it on the agenda.
+// Reads a tree text into rows, or refuses it. An agenda in the work buffer says which lines are due, so nothing
+// recurses: each turn takes one line, writes its row, and puts the lines due below it on the agenda.
 #![tactic(auto)]
 
 ghost use Rattle.std.specs.Prelude.{◌≡◌, ◌+◌, ◌-◌, ◌<◌, ◌≤◌, length, Result, IfOk};
@@ -16,7 +16,8 @@ use read_line::Line;
 use spec_text::{Refusal, Refused, Sort};
 use work_rows::LINE_KINDS;
 
-// The most bytes of a text, the most lines after the first, the deepest line, the shortest work buffer, the most parameters.
+// The most bytes of a text, the most lines after the first, the deepest line, the shortest work buffer, the most
+// parameters.
 const LONGEST_TEXT: usize = 65536;
 
 const MOST_LINES: usize = 4096;

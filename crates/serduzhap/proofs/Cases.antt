@@ -1,10 +1,5 @@
 -- The answers of the calls by their cases: `find` answers by a count or a refusal, and what each call makes of it is what is defined.
-use Prim.Native.Nat.{ℕ, ◌*◌, ◌-◌, ◌<◌, ◌≤◌}
-use native.Mathlib.Omega.{arith}
-use mathlib.Core.Path.{◌≡◌, refl, sym, ap, subst}
-use mathlib.Core.List.{List, [], ◌∷◌}
-use lib.ListN.{length}
-use borrow.Author.Tests.{lt-ltb, le-ltb, le-leb}
+use Rattle.std.proofs.Common.{ℕ, ◌*◌, ◌-◌, ◌<◌, ◌≤◌, arith, ◌≡◌, refl, sym, ap, subst, List, [], ◌∷◌, length, lt-ltb, le-ltb, le-leb, Ok}
 use Rattle.spec_text.specs.Bytes.{Bytes, Part, part_of}
 use Rattle.spec_text.specs.Tree.{Tree}
 use Rattle.spec_text.specs.Reading.{Reading, tree, refusal}
@@ -12,7 +7,6 @@ use Rattle.spec_faults.specs.Faults.{Fault, faults, records}
 use Rattle.spec_answers.specs.Answers.{written, faulty, refused, first_record, check_of, Outcome, over, refusing, reported, report_of, wrote_if, message_or, message_in, nth_fault, name_of, name_in}
 use Rattle.report_records.specs.RecordsModel.{numbers}
 use Rattle.report_messages.specs.MessagesModel.{record_message}
-use Rattle.std.specs.Prelude.{Ok}
 use Rattle.find_faults.specs.Found.{Finds, Kept, Listed}
 use Rattle.serduzhap.specs.Calls.{Gives, part_says}
 use Rattle.write_records.specs.WriteModel.{records_of, record_at}

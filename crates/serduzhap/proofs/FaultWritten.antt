@@ -1,11 +1,7 @@
 -- What a fault's entry gives, where it shows the fault: the record as it is written, the message and the name. And the records of all entries are
 -- the full report.
-use Prim.Native.Nat.{ℕ, zero, suc, ◌+◌, ◌%◌, ◌<◌, ◌≤◌}
-use native.Mathlib.Omega.{arith}
-use mathlib.Core.Path.{◌≡◌, refl, ap, ap₂, subst, ◌∙◌}
-use mathlib.Core.List.{List, [], ◌∷◌, ◌++◌, map}
+use Rattle.std.proofs.Common.{ℕ, zero, suc, ◌+◌, ◌%◌, ◌<◌, ◌≤◌, arith, ◌≡◌, refl, ap, ap₂, subst, ◌∙◌, List, [], ◌∷◌, ◌++◌, map, length}
 use mathlib.Core.Option.{Option, none, some}
-use lib.ListN.{length}
 use Rattle.spec_text.specs.Bytes.{Bytes, part_of}
 use Rattle.spec_faults.specs.Faults.{Fault, record7, records}
 use Rattle.spec_faults.specs.Faults as F

@@ -1,12 +1,6 @@
 -- What is written over an output buffer from its start: a message that fits.
-use Prim.Native.Nat.{ℕ, ◌≤◌, ◌<◌}
-use native.Mathlib.Omega.{arith}
-use native.Mathlib.Nat.{zero-add, sub-zero}
-use mathlib.Core.Path.{◌≡◌, refl, sym, ap, subst}
-use mathlib.Core.List.{[]}
-use lib.ListN.{length}
-use lib.Seq.{take_all}
-use borrow.Author.Tests.{lt-ltb, le-ltb}
+use Rattle.std.proofs.Common.{ℕ, ◌≤◌, ◌<◌, arith, zero-add, ◌≡◌, refl, sym, ap, subst, [], length, take_all, lt-ltb, le-ltb}
+use native.Mathlib.Nat.{sub-zero}
 use Rattle.spec_text.specs.Bytes.{Bytes}
 use Rattle.spec_answers.specs.Answers.{written, refused, Outcome, over, refusing, wrote_if}
 use Rattle.write_bytes.specs.PushModel.{bytes_pushed}

@@ -1,4 +1,5 @@
-// The public calls: check, report, message and name, each over a tree text and a work buffer. They read the tree, walk it, and list its faults.
+// The public calls: check, report, message and name, each over a tree text and a work buffer. They read the tree,
+// walk it, and list its faults.
 #![tactic(auto)]
 
 ghost use Rattle.std.specs.Prelude.{◌≡◌, ◌<◌, ◌*◌, length};

@@ -1,9 +1,5 @@
 -- Numbers that are put one after the other are the whole of an answer of that length; those of 32 bits stay as they are.
-use Prim.Native.Nat.{ℕ, zero, suc, ◌+◌, ◌%◌, ◌-◌, ◌<◌}
-use native.Mathlib.Omega.{arith}
-use mathlib.Core.Path.{◌≡◌, refl, ap, ap₂, ◌∙◌}
-use mathlib.Core.List.{List, [], ◌∷◌, ◌++◌}
-use lib.ListN.{length, replicate, get_or}
+use Rattle.std.proofs.Common.{ℕ, zero, suc, ◌+◌, ◌%◌, ◌-◌, ◌<◌, arith, ◌≡◌, refl, ap, ap₂, ◌∙◌, List, [], ◌∷◌, ◌++◌, length, replicate, get_or}
 use Rattle.spec_text.specs.Bytes.{Part}
 use Rattle.spec_text.proofs.Lists.{All, all_nil, all_cons}
 use Rattle.spec_answers.specs.Answers.{Answer}

@@ -1,5 +1,5 @@
-// The calls for C and Rust, on every target: an answer is a row of 32-bit numbers that the caller lends: a number, then what goes with it,
-// then 0. Nothing is returned. serduzhap_c_export exports them.
+// The calls for C and Rust, on every target: an answer is a row of 32-bit numbers that the caller lends: a number,
+// then what goes with it, then 0. Nothing is returned. serduzhap_c_export exports them.
 #![tactic(auto)]
 
 ghost use Rattle.std.specs.Prelude.{◌≡◌, ◌≤◌, ◌-◌, ◌++◌, length, replicate};
