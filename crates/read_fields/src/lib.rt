@@ -10,6 +10,9 @@ ghost use Rattle.read_fields.specs.FieldsModel.{next_at, field_at, start_at, fie
 // The most bytes of a name.
 const LONGEST_NAME: usize = 63;
 
+// The most digits of a number that begins with 0.
+const LONGEST_ZERO: usize = 1;
+
 // Where the next field starts, and whether there is one.
 #[derive(Clone, Copy)]
 pub struct Cursor {
@@ -165,7 +168,7 @@ impl Cursor {
         let mut value: u64 = 0;
         for (len, b) in digits.iter().enumerate() {
             if !read_bytes::is_digit(*b) {
-                if len == 0 || 1 < len && digits[0] == b'0' {
+                if len == 0 || LONGEST_ZERO < len && digits[0] == b'0' {
                     return None;
                 }
                 let next = past(*b, self.at + len)?;

@@ -6,26 +6,26 @@ use Rattle.read_fields.specs.FieldsModel.{field_at}
 use Rattle.read_fields.proofs.Fields.{clash, digits, field_more, run_more}
 use Rattle.read_fields.proofs.Takes.{number_empty, number_led, number_taken}
 use Rattle.read_fields.proofs.Cursor.number.Goals as goal
-use Rattle.read_fields.proofs.Cursor.number.Goals.{then-len-eq0-via-then-len-eq0, then-len-eq0-via-else-len-eq0+then-digits-eq48, then-len-gt1, else-len-gt1}
+use Rattle.read_fields.proofs.Cursor.number.Goals.{then-len-eq0-via-then-len-eq0, then-len-eq0-via-else-len-eq0+then-digits-eq48, then-len-gt-LONGEST_ZERO, else-len-gt-LONGEST_ZERO}
 
 pub returns-then-len-eq0 : goal.returns-then-len-eq0
 returns-then-len-eq0 c =
     let stop : is_digit (get_or c.rest-digits.result.now c.loop-len.len 0) ≡ false = cc in
     elim c.then-len-eq0.branch [
       | then-len-eq0-via-then-len-eq0 w ↦ number_empty c.args.text.now _ c.args.self c.rest-digits.ensures _ _ c.loop-len.invariant.0 stop w.if-len-eq0.true
-      | then-len-eq0-via-else-len-eq0+then-digits-eq48 w ↦ elim w.if-len-gt1.branch [
-        | then-len-gt1 x ↦
+      | then-len-eq0-via-else-len-eq0+then-digits-eq48 w ↦ elim w.if-len-gt-LONGEST_ZERO.branch [
+        | then-len-gt-LONGEST_ZERO x ↦
             let z : get_or c.rest-digits.result.now 0 0 ≡ 48 = eqb-true _ _ (sym x.value-is ∙ w.if-digits-eq48.true) in
-            number_led c.args.text.now _ c.args.self c.rest-digits.ensures _ _ c.loop-len.invariant.0 stop x.if-len-gt1.true z
-        | else-len-gt1 x ↦ absurd (clash w.if-digits-eq48.true (x.value-is ∙ le-ltb _ _ x.if-len-gt1.false))
+            number_led c.args.text.now _ c.args.self c.rest-digits.ensures _ _ c.loop-len.invariant.0 stop x.if-len-gt-LONGEST_ZERO.true z
+        | else-len-gt-LONGEST_ZERO x ↦ absurd (clash w.if-digits-eq48.true (x.value-is ∙ le-ltb _ _ x.if-len-gt-LONGEST_ZERO.false))
       ]
     ]
 
 pub returns-then-not-is_digit : goal.returns-then-not-is_digit
 returns-then-not-is_digit c =
-    let led : 1 < c.loop-len.len → get_or c.rest-digits.result.now 0 0 ≡ 48 → ⊥ = λ l z. elim c.if-len-gt1.branch [
-      | then-len-gt1 x ↦ clash (x.value-is ∙ eq-eqb _ _ z) c.if-digits-eq48.false
-      | else-len-gt1 x ↦ omega arith
+    let led : 1 < c.loop-len.len → get_or c.rest-digits.result.now 0 0 ≡ 48 → ⊥ = λ l z. elim c.if-len-gt-LONGEST_ZERO.branch [
+      | then-len-gt-LONGEST_ZERO x ↦ clash (x.value-is ∙ eq-eqb _ _ z) c.if-digits-eq48.false
+      | else-len-gt-LONGEST_ZERO x ↦ omega arith
     ] in
     number_taken c.args.text.now _ c.args.self c.rest-digits.ensures _ _ _ c.in_ok-next.next (not-false _ c.if-not-self.false) c.loop-len.invariant.0 c.loop-len.invariant.2
     c.loop-len.invariant.1 c.if-len-eq0.false led (sym c.past.ensures ∙ c.in_ok-next.was)
