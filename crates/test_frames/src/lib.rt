@@ -18,14 +18,6 @@ pub struct Frame {
     pub b: usize,
 }
 
-// The number in the first four bytes, the low byte first, and the bytes after it.
-pub fn number(bytes: &[u8]) -> Option<(usize, &[u8])>
-    ensures { MatchOption result (length bytes.now < 4) (λ r. (r.0 < 4294967296) × (r.0 ≡ from_le_bytes w32 (take 4 bytes.now)) × (r.1.now ≡ drop 4 bytes.now) × (length r.1.now + 4 ≡ length bytes.now)) }
-{
-    let (four, rest) = bytes.split_first_chunk::<4>()?;
-    Some((u32::from_le_bytes(*four) as usize, rest))
-}
-
 // The first n bytes, or as many as there are, and the bytes after them.
 pub fn part(bytes: &[u8], n: usize) -> (&[u8], &[u8])
     ensures first { result.0.now ≡ take n bytes.now }
@@ -35,13 +27,25 @@ pub fn part(bytes: &[u8], n: usize) -> (&[u8], &[u8])
     bytes.split_at(bytes.len().min(n))
 }
 
+// The number in the first four bytes, the low byte first, and the bytes after it. A byte that is missing is 0.
+pub fn number(bytes: &[u8]) -> (usize, &[u8])
+    ensures value { 4 ≤ length bytes.now → result.0 ≡ from_le_bytes w32 (take 4 bytes.now) }
+    ensures in_32_bits { result.0 < 4294967296 }
+    ensures after { result.1.now ≡ drop 4 bytes.now }
+{
+    let (here, rest) = part(bytes, 4);
+    let mut four = [0u8; 4];
+    four[..here.len()].copy_from_slice(here);
+    (u32::from_le_bytes(four) as usize, rest)
+}
+
 // The first frame, and the bytes after it.
 fn first_frame(bytes: &[u8]) -> Option<(Frame, &[u8])>
-    ensures { MatchOption result (length bytes.now < 9) (λ r. (r.0.letter ≡ get_or bytes.now 0 0) × (r.0.a ≡ from_le_bytes w32 (take 4 (drop 1 bytes.now))) × (r.0.b ≡ from_le_bytes w32 (take 4 (drop 5 bytes.now))) × (length r.1.now + 9 ≡ length bytes.now)) }
+    ensures { MatchOption result (bytes.now ≡ []) (λ r. (r.0.letter ≡ get_or bytes.now 0 0) × (r.1.now ≡ drop 9 bytes.now) × (length r.1.now < length bytes.now)) }
 {
     let (letter, rest) = bytes.split_first()?;
-    let (a, rest) = number(rest)?;
-    let (b, rest) = number(rest)?;
+    let (a, rest) = number(rest);
+    let (b, rest) = number(rest);
     let letter = *letter;
     Some((Frame { letter, a, b }, rest))
 }

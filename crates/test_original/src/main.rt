@@ -52,10 +52,11 @@ fn run(rt: &impl Print, all: &[u8]) -> io::Result<()> {
     let mut work = [u32::MAX; 16384];
     let mut bytes = [0u8; 512];
     let mut rest = all;
-    while let Some((len, after)) = test_frames::number(rest) {
-        let (text, after) = test_frames::part(after, len);
+    while !rest.is_empty() {
+        let (len, after) = test_frames::number(rest);
+        let text = after.get(..len).unwrap_or(&[]);
         check(rt, text, &mut work, &mut bytes)?;
-        rest = after;
+        rest = test_frames::part(after, len).1;
     }
     Ok(())
 }

@@ -2,5 +2,5 @@
 use Rattle.std.proofs.Common.{length}
 use Rattle.test_original.proofs.run.Given as goal
 
-abbrev pub decreases-loop-len : goal.decreases-loop-len
-decreases-loop-len g l = length l.rest
+abbrev pub decreases-loop-rest : goal.decreases-loop-rest
+decreases-loop-rest g l = length l.rest
