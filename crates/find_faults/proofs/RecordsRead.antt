@@ -6,7 +6,8 @@ use borrow.Author.Tests.{eqb-false}
 use Rattle.spec_text.specs.Bytes.{Bytes, Part}
 use Rattle.spec_text.specs.Tree.{Line}
 use Rattle.spec_faults.specs.declared.fault_kind.FaultKind.{FaultKind}
-use Rattle.spec_faults.specs.Kinds.{kind_number, kind_by_number}
+use Rattle.spec_faults.specs.Kinds.{kind_number}
+use Rattle.spec_faults.specs.KindsModel.{kind_by_number}
 use Rattle.spec_faults.specs.Faults.{Fault, record7}
 use Rattle.spec_faults.proofs.FaultKinds.{FromEight}
 use Rattle.spec_answers.specs.Answers.{nth_fault}

@@ -6,7 +6,7 @@ use mathlib.Core.Option.{some}
 use lib.Seq.{get_or-append_seam}
 use Rattle.spec_text.specs.Bytes.{Bytes}
 use Rattle.spec_text.specs.Reading.{shortest_work}
-use Rattle.spec_faults.specs.Kinds.{kind_by_number}
+use Rattle.spec_faults.specs.KindsModel.{kind_by_number}
 use Rattle.spec_faults.proofs.FaultKinds.{FromEight, kinds}
 use Rattle.spec_faults.proofs.KindNumbers.{number_again}
 use Rattle.spec_faults.specs.Faults.{Fault, faults, record7, records}

@@ -2,7 +2,8 @@
 use Rattle.std.specs.Prelude.{ℕ, zero, suc, ◌+◌, ◌*◌, List, [], ◌∷◌, ◌++◌, get_or}
 use Rattle.spec_text.specs.Bytes.{Bytes}
 use Rattle.spec_text.specs.Writing.{decimal_of, line_with}
-use Rattle.spec_faults.specs.Kinds.{kind_number, kind_by_number}
+use Rattle.spec_faults.specs.Kinds.{kind_number}
+use Rattle.spec_faults.specs.KindsModel.{kind_by_number}
 use Rattle.report_records.specs.declared.Record.{Record}
 use Rattle.report_messages.specs.MessagesModel.{record_message}
 

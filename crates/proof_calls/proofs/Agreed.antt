@@ -8,7 +8,7 @@ use Rattle.spec_text.specs.Reading.{Reading, tree, refusal, reading}
 use Rattle.spec_text.proofs.Lists.{and_split}
 use Rattle.spec_text.proofs.Theorems.{refusal_numbers}
 use Rattle.spec_faults.specs.Faults.{Fault, faults, record_length, records, message_of}
-use Rattle.spec_faults.specs.Kinds.{kind_by_number}
+use Rattle.spec_faults.specs.KindsModel.{kind_by_number}
 use Rattle.spec_faults.proofs.KindNumbers.{kind_again}
 use Rattle.spec_faults.proofs.Lists.{All, none as All-none, also}
 use Rattle.spec_answers.specs.Answers.{Answer, accepted, written, faulty, refused, refused_at, Outcome, over, refusing, reported, report_of, nth_fault, wrote_if, message_in}

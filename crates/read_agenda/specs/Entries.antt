@@ -1,6 +1,6 @@
 -- The entries of the agenda and their numbers in the work buffer.
 use Rattle.std.specs.Prelude.{ℕ, ◌+◌, ◌/◌, ◌%◌, ◌<◌, ◌≡◌}
-use Rattle.spec_text.specs.Numbers.{sort_number}
+use Rattle.spec_text.specs.SortsModel.{sort_number}
 use Rattle.read_agenda.specs.declared.due.Due.{Due}
 use Rattle.read_agenda.specs.declared.Entry.{Entry}
 use Rattle.read_agenda.specs.declared.Entry.TheVariants as E

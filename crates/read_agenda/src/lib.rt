@@ -2,7 +2,7 @@
 #![tactic(auto)]
 
 ghost use Rattle.std.specs.Prelude.{◌≡◌, ◌+◌, ◌-◌, ◌<◌, ◌≤◌, get_or, MatchOption};
-ghost use Rattle.spec_text.specs.Numbers.{sort_number};
+ghost use Rattle.spec_text.specs.SortsModel.{sort_number};
 ghost use Rattle.read_words.specs.ChildrenModel.{Few};
 ghost use Rattle.read_agenda.specs.StackModel.{agenda_base, stack, run_word, pushed_below, is_leaf, pushed_due, lessened};
 ghost use Rattle.read_agenda.specs.Entries.{due_word, entry_word, EntryFits, IsEntry, written, pushed_lines};

@@ -1,7 +1,7 @@
 -- What the steps of the functions make together, in the numbers of the work buffer.
 use Rattle.std.proofs.Common.{ℕ, ◌+◌, ◌/◌, ◌%◌, ◌<◌, arith, ◌≡◌, ap, ◌∙◌}
 use Rattle.spec_text.specs.Bytes.{Bytes}
-use Rattle.spec_text.specs.Numbers.{sort_number}
+use Rattle.spec_text.specs.SortsModel.{sort_number}
 use Rattle.spec_text.specs.declared.sort.Sort.{Sort}
 use Rattle.spec_text.specs.declared.sort.Sort.TheVariants as S
 use Rattle.read_agenda.specs.declared.due.Due.{Due}

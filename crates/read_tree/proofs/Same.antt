@@ -7,7 +7,8 @@ use borrow.Author.Tests.{lt-leb}
 use Rattle.spec_text.specs.Bytes.{Bytes, part_of}
 use Rattle.spec_text.specs.Lines.{Form, Cut, cut, Parsed, parse, count_at, sort_of}
 use Rattle.spec_text.specs.Reading.{Rest, Read, got, refused, Due, line, formed, too_deep}
-use Rattle.spec_text.specs.Numbers.{refusal_number, sort_number}
+use Rattle.spec_text.specs.Numbers.{refusal_number}
+use Rattle.spec_text.specs.SortsModel.{sort_number}
 use Rattle.spec_text.specs.declared.refusal.Refusal.TheVariants.{LineMissing, Malformed, NotDue, OverLimit}
 use Rattle.spec_text.specs.declared.refusal.Refused.{Refused}
 use Rattle.spec_text.specs.Tree.{Line as TextLine}

@@ -1,6 +1,6 @@
 -- The test of a line's sort, in numbers: two sorts with one number are one sort.
 use Rattle.std.proofs.Common.{◌≡◌, false, eqb, ne_eqb}
-use Rattle.spec_text.specs.Numbers.{sort_number}
+use Rattle.spec_text.specs.SortsModel.{sort_number}
 use Rattle.spec_text.specs.declared.sort.Sort.{Sort}
 use Rattle.spec_text.proofs.Numbers.{one_sort}
 

@@ -1,7 +1,7 @@
 -- The reader as it runs: the agenda is a stack in the work buffer. What each function does to the numbers, in the code's own steps.
 use Rattle.std.specs.Prelude.{ℕ, ◌+◌, ◌-◌, ◌*◌, ◌/◌, ◌%◌, ◌≤◌, ◌<◌, cond, not, ◌||◌, List, ◌≡◌, eqb, leb, ltb, length, get_or, drop, Option, None, Some, Result, Ok, Err, IfOk}
 use Rattle.spec_text.specs.Bytes.{Bytes}
-use Rattle.spec_text.specs.Numbers.{sort_number}
+use Rattle.spec_text.specs.SortsModel.{sort_number}
 use Rattle.spec_text.specs.Reading.{Rest, most_lines, most_params, deepest}
 use Rattle.spec_text.specs.declared.refusal.Refusal.{Refusal}
 use Rattle.spec_text.specs.declared.refusal.Refusal.TheVariants.{LineMissing, LineLeft, Malformed, NotDue, OverLimit}

@@ -3,7 +3,7 @@
 #![tactic(auto)]
 
 ghost use Rattle.std.specs.Prelude.{◌≡◌, ◌+◌, ◌-◌, ◌<◌, ◌≤◌, length, Result, IfOk};
-ghost use Rattle.spec_text.specs.Numbers.{sort_number};
+ghost use Rattle.spec_text.specs.SortsModel.{sort_number};
 ghost use Rattle.spec_text.specs.Reading.{reading, ended};
 ghost use Rattle.spec_text.specs.declared.refusal.Refused.{Refused};
 ghost use Rattle.read_agenda.specs.Entries.{due_word};

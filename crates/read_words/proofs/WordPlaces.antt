@@ -7,7 +7,7 @@ use Rattle.spec_text.specs.Bytes.{Bytes, Part, same}
 use Rattle.spec_text.specs.Lines.{Form, Word, words, sort_of, Parsed, well_formed, parsed, line_of}
 use Rattle.spec_text.proofs.Lists.{next_of, at_next, test_at}
 use Rattle.read_words.specs.WordsModel.{place, is_word, no_word, of_word, shape_of, sort_in}
-use Rattle.spec_text.specs.Numbers.{sort_number}
+use Rattle.spec_text.specs.SortsModel.{sort_number}
 
 -- the word in row k
 abbrev pub word_at : ℕ → Word

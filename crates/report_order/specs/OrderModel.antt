@@ -4,7 +4,8 @@ use Rattle.std.specs.Prelude.{ℕ, zero, suc, ◌+◌, ◌*◌, ◌-◌, ◌/◌
 use Rattle.std.specs.List.{list_any, range_with_len}
 use Rattle.spec_faults.specs.Faults.{capture}
 use Rattle.spec_faults.specs.declared.fault_kind.FaultKind.{FaultKind}
-use Rattle.spec_faults.specs.Kinds.{kind_number, kind_by_number}
+use Rattle.spec_faults.specs.Kinds.{kind_number}
+use Rattle.spec_faults.specs.KindsModel.{kind_by_number}
 use Rattle.work_rows.specs.Layout.{put, rows_most, kind_at, lines_below, after_row}
 use Rattle.work_marks.specs.MarksModel.{slot_at}
 use Rattle.work_marks.specs.Signs.{fault_of}

@@ -2,7 +2,8 @@
 use Rattle.std.proofs.Common.{ℕ, zero, suc, ◌+◌, ◌-◌, ◌≤◌, ◌<◌, ◌≡◌, refl, arith}
 use Rattle.spec_faults.specs.declared.fault_kind.FaultKind.{FaultKind}
 use Rattle.spec_faults.specs.declared.fault_kind.FaultKind.TheVariants.{UndefinedVariable, UndefinedFunction, UndefinedCapture, UnboundVariable, UnboundFunction, UnboundCapture, InvalidTarget, MethodWithoutSelf}
-use Rattle.spec_faults.specs.Kinds.{kind_number, kind_by_number}
+use Rattle.spec_faults.specs.Kinds.{kind_number}
+use Rattle.spec_faults.specs.KindsModel.{kind_by_number}
 
 pub from_eight : (k : FaultKind) → (8 ≤ kind_number k) × (kind_number k ≤ 15)
 from_eight UndefinedVariable = (omega arith, omega arith)

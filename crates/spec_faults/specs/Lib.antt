@@ -6,3 +6,4 @@ pub mod Faults
 pub mod Rule
 pub mod Rust
 pub mod Kinds
+pub mod KindsModel

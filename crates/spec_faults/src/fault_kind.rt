@@ -1,6 +1,7 @@
 // Kinds of faults.
 ghost use Rattle.std.specs.Prelude.{◌≡◌};
-ghost use Rattle.spec_faults.specs.Kinds.{kind_number, kind_by_number};
+ghost use Rattle.spec_faults.specs.Kinds.{kind_number};
+ghost use Rattle.spec_faults.specs.KindsModel.{kind_by_number};
 
 // The kind of a fault.
 #[derive(Clone, Copy, PartialEq, Eq)]

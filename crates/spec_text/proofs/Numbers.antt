@@ -1,7 +1,8 @@
 -- Two sorts with one number are one sort, and two refusals with one number one refusal.
 use Prim.Native.Nat.{ℕ, zero, suc}
 use mathlib.Core.Path.{◌≡◌, refl, sym, ap, ap₂, ◌∙◌}
-use Rattle.spec_text.specs.Numbers.{refusal_number, sort_number}
+use Rattle.spec_text.specs.Numbers.{refusal_number}
+use Rattle.spec_text.specs.SortsModel.{sort_number}
 use Rattle.spec_text.specs.declared.refusal.Refusal.{Refusal}
 use Rattle.spec_text.specs.declared.refusal.Refusal.TheVariants.{TextTooLong, WorkTooShort, LineMissing, LineLeft, Malformed, NotDue, OverLimit}
 use Rattle.spec_text.specs.declared.refusal.Refused.{Refused}

@@ -1,6 +1,6 @@
 // Sorts of lines: where a line is due (`sort_of` in specs/Lines).
 ghost use Rattle.std.specs.Prelude.{◌≡◌};
-ghost use Rattle.spec_text.specs.Numbers.{sort_number};
+ghost use Rattle.spec_text.specs.SortsModel.{sort_number};
 
 // Where a line is due.
 #[derive(Clone, Copy, PartialEq, Eq, Default)]

@@ -1,7 +1,7 @@
 -- What a slot and a flag say.
 use Rattle.std.specs.Prelude.{ℕ, cond, ◌&&◌, eqb, leb, Option, Some, None}
 use Rattle.spec_faults.specs.declared.fault_kind.FaultKind.{FaultKind}
-use Rattle.spec_faults.specs.Kinds.{kind_by_number}
+use Rattle.spec_faults.specs.KindsModel.{kind_by_number}
 use Rattle.work_marks.specs.declared.own.Own.{Own}
 use Rattle.work_marks.specs.declared.own.Own.TheVariants.{NotOwn, Assigned, Unassigned}
 
