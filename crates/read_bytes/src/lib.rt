@@ -1,9 +1,13 @@
-// Bytes of the text: the classes of a byte, the byte at an offset, a part of the text.
+// Bytes of the text: the classes of a byte, the byte at an offset, and where a name stands.
 #![tactic(auto)]
 
 ghost use Rattle.std.specs.Prelude.{◌≡◌, get_or};
-ghost use Rattle.spec_text.specs.Bytes.{is_digit, is_name_byte, part_of};
+ghost use Rattle.spec_text.specs.Bytes.{is_digit, is_name_byte};
 ghost use Rattle.read_bytes.specs.BytesModel.{is_end};
+
+mod name_part;
+
+pub use name_part::NamePart;
 
 // What ends a field that is not the last of its line, and what ends a line.
 pub const TAB: u8 = 9;
@@ -32,17 +36,9 @@ pub fn is_end(b: u8) -> bool
 }
 
 // The byte at i, and 0 past the end.
+// Kept: 0, which is no letter and ends no field; an Option would be taken apart by each caller to say the same.
 pub fn byte_at(text: &[u8], i: usize) -> u8
     ensures { result ≡ get_or text.now i 0 }
 {
     text.get(i).copied().unwrap_or(0)
-}
-
-// The part of the text from an offset on; none where it is not inside.
-pub fn part(text: &[u8], at: usize, len: usize) -> &[u8]
-    ensures { result.now ≡ part_of text.now at len }
-{
-    at.checked_add(len)
-        .and_then(|end| text.get(at..end))
-        .unwrap_or(&[])
 }

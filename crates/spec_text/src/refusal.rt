@@ -1,12 +1,6 @@
-// Refusals.
+// Why a text is refused: refusals 1 to 7. 16 to 18 are errors of the calls (crate serduzhap).
 ghost use Rattle.std.specs.Prelude.{◌≡◌};
 ghost use Rattle.spec_text.specs.Numbers.{refusal_number};
-
-pub const OUTPUT_TOO_SHORT: usize = 16; // the report does not fit its output
-
-pub const NO_SUCH_FAULT: usize = 17; // there is no fault i
-
-pub const MESSAGE_TOO_LONG: usize = 18; // the message does not fit its output
 
 // Why a text is not read.
 #[derive(Clone, Copy, PartialEq, Eq)]
