@@ -6,7 +6,7 @@ use Rattle.spec_text.specs.Bytes.{Bytes, part_of}
 use Rattle.read_fields.specs.FieldsModel.{field_at, hash_of}
 use Rattle.work_rows.specs.Layout.{put, rows_most, name_base, head_base, head_end, name_of, offset_at, same_at}
 use Rattle.read_names.specs.Names.{earliest}
-use Rattle.read_names.specs.ChainsModel.{head_at, found, placed, name_entered, added, cleared, New, Link, Names}
+use Rattle.read_names.specs.ChainsModel.{head_at, row_number, found, placed, name_entered, added, cleared, New, Link, Names}
 use Rattle.read_names.proofs.Earliest.{more, First, Absent, sought, earliest_first, earliest_absent, first_more, first_new, earliest_more, more_old, more_new, more_length}
 use Rattle.read_names.proofs.Writes.{marked, headed, entered_old, entered_new, cleared_length, cleared_head}
 use Rattle.read_names.proofs.Links.{hash_small, found_earliest, first_is_new, new_less, link_more, link_past, link_on}
@@ -204,15 +204,16 @@ module _ {text : Bytes} {names : List Bytes} {w : List ℕ} (s : Names text name
     unfolding added
     names_added len some p = go (sought names x)
       where
-        row : found text w (hash_of x) (part_of text at len) ≡ earliest names x
-        row = ap (found text w (hash_of x)) p ∙ found_earliest s x some
+        row : row_number (found text w (hash_of x) (part_of text at len)) ≡ earliest names x
+        row = ap (λ y. row_number (found text w (hash_of x) y)) p ∙ found_earliest s x some
 
         wrote : (r : ℕ) → earliest names x ≡ r
-            → name_entered w (length names) at (hash_of x) (found text w (hash_of x) (part_of text at len)) ≡ name_entered w (length names) at (hash_of x) r
+            → name_entered w (length names) at (hash_of x) (row_number (found text w (hash_of x) (part_of text at len)))
+            ≡ name_entered w (length names) at (hash_of x) r
         wrote r q = ap (name_entered w (length names) at (hash_of x)) (row ∙ q)
 
         go : ((j : ℕ) × First names x j) ⊎ Absent names x
-            → Names text (more names x) (name_entered w (length names) at (hash_of x) (found text w (hash_of x) (part_of text at len)))
+            → Names text (more names x) (name_entered w (length names) at (hash_of x) (row_number (found text w (hash_of x) (part_of text at len))))
         go (inl (j, f)) =
             subst (Names text (more names x)) (sym (wrote j (earliest_first f) ∙ entered_old w (length names) at (hash_of x) j (omega (arith, f.low)))) (names_old j f)
         go (inr a) =

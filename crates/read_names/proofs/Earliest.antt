@@ -1,8 +1,8 @@
 -- The earliest row that has a name: either some row is the first that has it, or no row has it. What follows for two rows' numbers,
 -- and for a list with one name more.
 use Rattle.std.proofs.Common.{ℕ, zero, suc, ◌+◌, ◌<◌, suc-le-suc, le_of_suc-le-suc, not-suc-le-zero, arith, ◌≡◌, refl, sym, ap, ◌∙◌, Bool, true, false, List, [], ◌∷◌, ◌++◌, ◌⊎◌, inl, inr, length, get_or, length-append}
-use lib.ListN.{get_or-append}
-use lib.Seq.{get_or-append_seam}
+use Rattle.std.proofs.Math.ListN.{get_or-append}
+use Rattle.std.proofs.Math.Seq.{get_or-append_seam}
 use Rattle.spec_text.specs.Bytes.{Bytes, same}
 use Rattle.spec_text.proofs.Lists.{same_refl, same_eq, same_false, other_same}
 use Rattle.work_rows.specs.Layout.{rows_most, number_at}
@@ -67,7 +67,7 @@ pub earliest_absent : (names : List Bytes) (x : Bytes) → Absent names x → ea
 earliest_absent names x a = from_absent 0 names x a
 
 -- a row's name has a first row
-pub first_of : (names : List Bytes) (i : ℕ) → i < length names → (j : ℕ) × First names (get_or names i []) j
+first_of : (names : List Bytes) (i : ℕ) → i < length names → (j : ℕ) × First names (get_or names i []) j
 first_of names i l = go (sought names (get_or names i []))
   where
     go : ((j : ℕ) × First names (get_or names i []) j) ⊎ Absent names (get_or names i []) → (j : ℕ) × First names (get_or names i []) j

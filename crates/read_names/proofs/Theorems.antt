@@ -1,14 +1,14 @@
 -- What is proved of the names' numbers. `Names text names w` says that the buffer w holds the first rows' names, in the order read: it
 -- holds for no row after `cleared`, and for one row more after `added` and `placed`; and then two rows have one number exactly when they
 -- have one name, and what is looked up is the earliest row that has the name. Of the writes it is also said what they leave as it was.
-use Rattle.std.proofs.Common.{ℕ, ◌≤◌, ◌<◌, arith, ◌≡◌, refl, List, [], ◌∷◌, ◌++◌, ◌↔◌, ⊎_elim, length, get_or, set, length-set, get_or-set_other}
+use Rattle.std.proofs.Common.{ℕ, ◌≤◌, ◌<◌, arith, ◌≡◌, refl, List, [], ◌∷◌, ◌++◌, ◌↔◌, ⊎_elim, length, get_or, set, length-set, get_or-set_other, MatchOption}
 use Rattle.spec_text.specs.Bytes.{Bytes, part_of}
 use Rattle.read_fields.specs.FieldsModel.{field_at, hash_of}
 use Rattle.work_rows.specs.Layout.{rows_most, number_at}
 use Rattle.read_names.specs.Names.{earliest, Numbered}
-use Rattle.read_names.specs.ChainsModel.{lookup, placed, added, cleared, Names}
+use Rattle.read_names.specs.ChainsModel.{row_found, lookup, placed, added, cleared, Names}
 use Rattle.read_names.proofs.Earliest.{number_name, name_number}
-use Rattle.read_names.proofs.Links.{found_earliest}
+use Rattle.read_names.proofs.Links.{found_row, found_earliest}
 use Rattle.read_names.proofs.Adds.{names_empty, names_none, names_added, names_kept}
 pub use Rattle.read_names.proofs.Writes.{Outside, placed_length, placed_offset, placed_rows, placed_outside}
 pub use Rattle.read_names.proofs.Writes.{added_length, added_offset, added_rows, added_outside, cleared_length, cleared_other}
@@ -21,6 +21,11 @@ pub cleared_names : (text : Bytes) (w : List ℕ) → 16_384 ≤ length w → Na
 cleared_names text w room = names_empty text w room
 
 module _ {text : Bytes} {names : List Bytes} {w : List ℕ} (s : Names text names w) where
+  -- of the row that is found, and of its number: none where no row has the name, else the earliest
+  pub found_in_names : (x : Bytes) → (x ≡ [] → ⊥)
+      → MatchOption (row_found text w x) (earliest names x ≡ rows_most) (λ j. (earliest names x ≡ j) × (j < rows_most))
+  found_in_names x some = found_row s x some
+
   pub lookup_earliest : (x : Bytes) → (x ≡ [] → ⊥) → lookup text w x ≡ earliest names x
   lookup_earliest x some = found_earliest s x some
 

@@ -3,7 +3,7 @@ use Rattle.std.proofs.Common.{ℕ, zero, suc, ◌+◌, ◌%◌, ◌≤◌, ◌<�
 use Rattle.std.proofs.lemmas.Bool.{cases_eq}
 use Rattle.spec_text.specs.Bytes.{Bytes, part_of}
 use Rattle.work_rows.specs.Layout.{put, rows_most, name_base, head_base, head_end, name_of, offset_at}
-use Rattle.read_names.specs.ChainsModel.{head_at, found, placed, name_entered, added, cleared_from, cleared}
+use Rattle.read_names.specs.ChainsModel.{head_at, row_number, found, placed, name_entered, added, cleared_from, cleared}
 
 -- ---- a row's name: its second number, and for a new name the head of its hash
 abbrev pub marked : List ℕ → ℕ → ℕ → ℕ → List ℕ
@@ -30,7 +30,7 @@ entered_has P w i at h r first then = go (ltb r rows_most)
 added_has : (P : List ℕ → Type 0) (text : Bytes) (w : List ℕ) (i at len h : ℕ) → ((mark : ℕ) → P (marked w i at mark))
     → ((z : List ℕ) → P z → P (headed z i h)) → P (added text w i at len h)
 unfolding added
-added_has P text w i at len h first then = entered_has P w i at h (found text w h (part_of text at len)) first then
+added_has P text w i at len h first then = entered_has P w i at h (row_number (found text w h (part_of text at len))) first then
 
 -- the places that are neither second numbers nor heads
 abbrev pub Outside : ℕ → Type 0

@@ -12,23 +12,27 @@ head_at w h = get_or w (head_base + h % 4_096) 0 % 8_192
 abbrev pub link_at : List ℕ → ℕ → ℕ
 link_at w j = cond (leb (same_at w j - rows_most) j) (same_at w j - rows_most) 0
 
+-- the first row of the chain at c that has the name x, in so many steps at most. A buffer that holds no names may have rows from 4,096 on
+-- in a chain: they are found like others.
+unfoldable pub follow : ℕ → Bytes → List ℕ → ℕ → Bytes → Option ℕ
+follow zero text w c x = None
+follow (suc n) text w zero x = None
+follow (suc n) text w (suc j) x = cond (same (field_at text (offset_at w j)) x) (Some j) (follow n text w (link_at w j) x)
+
+-- the row found for the name x of the hash h
+abbrev pub found : Bytes → List ℕ → ℕ → Bytes → Option ℕ
+found text w h x = follow (head_at w h) text w (head_at w h) x
+
+abbrev pub row_found : Bytes → List ℕ → Bytes → Option ℕ
+row_found text w x = found text w (hash_of x) x
+
 -- the number of a row that is found, or of none
 abbrev pub row_number : Option ℕ → ℕ
 row_number None = rows_most
 row_number (Some j) = j
 
--- the first row of the chain at c that has the name x, in so many steps at most
-unfoldable pub follow : ℕ → Bytes → List ℕ → ℕ → Bytes → ℕ
-follow zero text w c x = rows_most
-follow (suc n) text w zero x = rows_most
-follow (suc n) text w (suc j) x = elim (same (field_at text (offset_at w j)) x) [ true ↦ j | false ↦ follow n text w (link_at w j) x ]
-
--- the row found for the name x of the hash h
-abbrev pub found : Bytes → List ℕ → ℕ → Bytes → ℕ
-found text w h x = follow (head_at w h) text w (head_at w h) x
-
 abbrev pub lookup : Bytes → List ℕ → Bytes → ℕ
-lookup text w x = found text w (hash_of x) x
+lookup text w x = row_number (row_found text w x)
 
 -- ---- what is written: a row's second number, and its head if the name is new
 abbrev pub placed : List ℕ → ℕ → ℕ → List ℕ
@@ -43,7 +47,7 @@ name_entered w i at h r =
 
 -- row i has the name that starts at an offset and has a length and a hash
 unfoldable pub added : Bytes → List ℕ → ℕ → ℕ → ℕ → ℕ → List ℕ
-added text w i at len h = name_entered w i at h (found text w h (part_of text at len))
+added text w i at len h = name_entered w i at h (row_number (found text w h (part_of text at len)))
 
 -- no name yet
 unfoldable pub cleared_from : ℕ → ℕ → List ℕ → List ℕ
