@@ -16,21 +16,21 @@ const LONGEST_NAME: usize = 63;
 const LONGEST_ZERO: usize = 1;
 
 // Where the next field starts, and whether there is one.
-#[derive(Clone, Copy)]
+#[derive(Clone, Copy, PartialEq, Eq)]
 pub struct Cursor {
     pub at: usize,
     pub more: bool,
 }
 
 // A number, and the cursor past it.
-#[derive(Clone, Copy)]
+#[derive(Clone, Copy, PartialEq, Eq)]
 pub struct Number {
     pub value: u32,
     pub next: Cursor,
 }
 
 // A name: where it stands, its hash, and the cursor past it.
-#[derive(Clone, Copy)]
+#[derive(Clone, Copy, PartialEq, Eq)]
 pub struct Name {
     pub part: NamePart,
     pub hash: usize,

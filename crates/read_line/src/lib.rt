@@ -17,7 +17,7 @@ const LARGEST_COUNT: u32 = 4096;
 // A line as numbers: the word's place in the table, the class of places where it is due, its span, its own name with
 // its hash, its counts, how many parameters it has, and where the next line starts.
 // Kept: no Option for what a line has not, which is 0: the documents say so of a name: "an absent one is 0, 0".
-#[derive(Clone, Copy, Default)]
+#[derive(Clone, Copy, PartialEq, Eq, Default)]
 pub struct Line {
     pub kind: usize,
     pub sort: Sort,
@@ -33,7 +33,7 @@ pub struct Line {
 }
 
 // How many parameters there are, and the cursor past them.
-#[derive(Clone, Copy)]
+#[derive(Clone, Copy, PartialEq, Eq)]
 pub struct Params {
     pub count: usize,
     pub next: Cursor,
