@@ -177,7 +177,7 @@ module _ (s x : Bytes) (c : Cursor) (e : x ≡ drop c.at s) where
   -- ---- names
   no_name : (IsName (field x) → is_end (get_or x (length (field x)) 0) ≡ true → ⊥) → None ≡ name_from s c
   no_name h =
-      refuse is_name s c (record { at = c.at; len = length (field_at s c.at); hash = hash_of (field_at s c.at); next = past s c.at })
+      refuse is_name s c (record { part = record { offset = c.at; len = length (field_at s c.at) }; hash = hash_of (field_at s c.at); next = past s c.at })
       (λ t. h (rw e (name_is _ t.right)) (end_here ∙ t.ended))
 
   pub name_empty : (i : ℕ) → Run is_name_byte x i → is_name_byte (get_or x i 0) ≡ false → i ≡ 0 → None ≡ name_from s c
@@ -194,7 +194,7 @@ module _ (s x : Bytes) (c : Cursor) (e : x ≡ drop c.at s) where
 
   pub name_taken : (i h : ℕ) (n : Cursor) → c.more ≡ true → Run is_name_byte x i → hash_from 0 (field x) ≡ hash_from h (field_at x i)
       → (i ≡ 0 → ⊥) → i ≤ longest_name → is_digit (get_or x 0 0) ≡ false → past_byte (get_or x i 0) (c.at + i) ≡ Some n
-      → ◌≡◌ {A = Option Name} (Some (record { at = c.at; len = i; hash = h; next = n })) (name_from s c)
+      → ◌≡◌ {A = Option Name} (Some (record { part = record { offset = c.at; len = i }; hash = h; next = n })) (name_from s c)
   name_taken i h n m r q z l f g =
       let d : is_end (get_or x i 0) ≡ true = ends i n g in
       let w : Whole is_name_byte x i = run_whole r d in
@@ -210,4 +210,4 @@ module _ (s x : Bytes) (c : Cursor) (e : x ≡ drop c.at s) where
         ended = sym end_here ∙ (ap (λ (j : ℕ). is_end (get_or x j 0)) w.len ∙ d);
       } in
       let b : n ≡ past s c.at = steps i n w.len g in
-      cc (taken {A = Name} is_name s c (record { at = c.at; len = length (field_at s c.at); hash = hash_of (field_at s c.at); next = past s c.at }) t)
+      cc (taken {A = Name} is_name s c (record { part = record { offset = c.at; len = length (field_at s c.at) }; hash = hash_of (field_at s c.at); next = past s c.at }) t)

@@ -65,7 +65,11 @@ hash_of x = hash_from 0 x
 abbrev pub name_from : Bytes → Cursor → Option Name
 name_from text c =
     cond (takes is_name text c)
-    (Some (record { at = c.at; len = length (field_at text c.at); hash = hash_of (field_at text c.at); next = past text c.at }))
+    (Some (record {
+      part = record { offset = c.at; len = length (field_at text c.at) };
+      hash = hash_of (field_at text c.at);
+      next = past text c.at;
+    }))
     None
 
 -- after the last field

@@ -7,6 +7,8 @@ ghost use Rattle.spec_text.specs.Bytes.{same};
 ghost use Rattle.read_bytes.specs.BytesModel.{is_end};
 ghost use Rattle.read_fields.specs.FieldsModel.{next_at, field_at, start_at, field_from, number_from, hash_of, name_from, mix, end_from, past_byte, past_end};
 
+use read_bytes::NamePart;
+
 // The most bytes of a name.
 const LONGEST_NAME: usize = 63;
 
@@ -14,24 +16,23 @@ const LONGEST_NAME: usize = 63;
 const LONGEST_ZERO: usize = 1;
 
 // Where the next field starts, and whether there is one.
-#[derive(Clone, Copy)]
+#[derive(Clone, Copy, PartialEq, Eq)]
 pub struct Cursor {
     pub at: usize,
     pub more: bool,
 }
 
 // A number, and the cursor past it.
-#[derive(Clone, Copy)]
+#[derive(Clone, Copy, PartialEq, Eq)]
 pub struct Number {
     pub value: u32,
     pub next: Cursor,
 }
 
-// A name: the offset of its first byte, its length, and its hash.
-#[derive(Clone, Copy)]
+// A name: where it stands, its hash, and the cursor past it.
+#[derive(Clone, Copy, PartialEq, Eq)]
 pub struct Name {
-    pub at: usize,
-    pub len: usize,
+    pub part: NamePart,
     pub hash: usize,
     pub next: Cursor,
 }
@@ -202,8 +203,10 @@ impl Cursor {
                 }
                 let next = past(*b, self.at + len)?;
                 return Some(Name {
-                    at: self.at,
-                    len,
+                    part: NamePart {
+                        offset: self.at,
+                        len,
+                    },
                     hash,
                     next,
                 });

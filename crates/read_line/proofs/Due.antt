@@ -65,7 +65,7 @@ numbers_row k largest text c h = go k (test c) (test d) (test (past text d.at)) 
 
 -- ---- a name
 abbrev pub name_at : List Part → Cursor → Name
-name_at ps next = let x = get_or ps 0 no_part in record { at = x.offset; len = length x.bytes; hash = hash_of x.bytes; next = next }
+name_at ps next = let x = get_or ps 0 no_part in record { part = record { offset = x.offset; len = length x.bytes }; hash = hash_of x.bytes; next = next }
 
 pub name_row_lem : (due : Bool) (text : Bytes) (c : Cursor)
     → (let r = row_from (cond due 1 0) is_name text c in name_if due text c ≡ option_map (name_at r.parts) r.next)

@@ -117,8 +117,7 @@ of_parts kind sort span own counts params next =
       sort = sort;
       start = number_at span 0;
       end = number_at span 1;
-      name = x.offset;
-      len = length x.bytes;
+      name = record { offset = x.offset; len = length x.bytes };
       hash = hash_of x.bytes;
       count0 = number_at counts 0;
       count1 = number_at counts 1;

@@ -83,8 +83,7 @@ module _ (w : Word) (n : ℕ) (text : Bytes) where
         sort = sort_in w.form;
         start = s.first;
         end = s.second;
-        name = x.at;
-        len = x.len;
+        name = x.part;
         hash = x.hash;
         count0 = d.first;
         count1 = d.second;

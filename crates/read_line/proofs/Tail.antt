@@ -88,7 +88,7 @@ module _ (text : Bytes) (d : Cursor) (more : d.more ≡ true) where
       let b : d ≡ record { at = d.at; more = true } = ap (λ (m : Bool). record { at = d.at; more = m }) more in
       sym (p.whole ∙ rw o (ap (λ (y : Cursor). plus n (params_if true text y)) b ∙ ap (plus n) (no_name_more text d.at (go (takes is_name text (record { at = d.at; more = true })) (ap (name_from text) (sym b) ∙ e)))))
     where
-      go : (t : Bool) → cond {A = Option Name} t (Some (record { at = d.at; len = length (field_at text d.at); hash = hash_of (field_at text d.at); next = past text d.at })) None ≡ None → t ≡ false
+      go : (t : Bool) → cond {A = Option Name} t (Some (record { part = record { offset = d.at; len = length (field_at text d.at) }; hash = hash_of (field_at text d.at); next = past text d.at })) None ≡ None → t ≡ false
       go true e = absurd cc
       go false e = refl
 

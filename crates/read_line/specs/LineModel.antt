@@ -10,7 +10,7 @@ use Rattle.read_line.specs.declared.Line.{Line}
 
 -- what stands for a line where there is none
 abbrev pub no_line : Line
-no_line = record { kind = 0; sort = Tree; start = 0; end = 0; name = 0; len = 0; hash = 0; count0 = 0; count1 = 0; count2 = 0; params = 0; next = 0 }
+no_line = record { kind = 0; sort = Tree; start = 0; end = 0; name = record { offset = 0; len = 0 }; hash = 0; count0 = 0; count1 = 0; count2 = 0; params = 0; next = 0 }
 
 -- a line that is well formed, and the offset of the line after it
 abbrev pub numbers_of : Parsed → ℕ → Line
@@ -19,8 +19,7 @@ numbers_of p next = record {
   sort = sort_in p.form;
   start = p.line.start;
   end = p.line.end;
-  name = p.line.name.offset;
-  len = length p.line.name.bytes;
+  name = record { offset = p.line.name.offset; len = length p.line.name.bytes };
   hash = hash_of p.line.name.bytes;
   count0 = count_at 0 p;
   count1 = count_at 1 p;

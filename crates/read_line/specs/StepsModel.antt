@@ -17,7 +17,7 @@ unfoldable pub number_if : Bool → ℕ → Bytes → Cursor → Option Number
 number_if due largest text c = cond due (number_from largest text c) (Some (record { value = 0; next = c }))
 
 unfoldable pub name_if : Bool → Bytes → Cursor → Option Name
-name_if due text c = cond due (name_from text c) (Some (record { at = 0; len = 0; hash = 0; next = c }))
+name_if due text c = cond due (name_from text c) (Some (record { part = record { offset = 0; len = 0 }; hash = 0; next = c }))
 
 -- ---- parameters: all the fields that are left are names
 abbrev pub all_names : Cut → Option Params
@@ -45,8 +45,7 @@ shaped s k text =
       sort = s.sort;
       start = from.value;
       end = to.value;
-      name = own.at;
-      len = own.len;
+      name = own.part;
       hash = own.hash;
       count0 = a.value;
       count1 = b.value;

@@ -5,6 +5,7 @@ ghost use Rattle.std.specs.Prelude.{◌≡◌};
 ghost use Rattle.read_line.specs.LineModel.{line_at};
 ghost use Rattle.read_line.specs.StepsModel.{number_if, name_if, params_if};
 
+use read_bytes::NamePart;
 use read_fields::{Cursor, Name, Number};
 use spec_text::Sort;
 
@@ -14,15 +15,15 @@ const LARGEST_SPAN: u32 = 4294967295;
 const LARGEST_COUNT: u32 = 4096;
 
 // A line as numbers: the word's place in the table, the class of places where it is due, its span, its own name with
-// its hash, its counts, how many parameters it has, and where the next line starts. What it has not is 0.
-#[derive(Clone, Copy, Default)]
+// its hash, its counts, how many parameters it has, and where the next line starts.
+// Kept: no Option for what a line has not, which is 0: the documents say so of a name: "an absent one is 0, 0".
+#[derive(Clone, Copy, PartialEq, Eq, Default)]
 pub struct Line {
     pub kind: usize,
     pub sort: Sort,
     pub start: u32,
     pub end: u32,
-    pub name: usize,
-    pub len: usize,
+    pub name: NamePart,
     pub hash: usize,
     pub count0: u32,
     pub count1: u32,
@@ -32,7 +33,7 @@ pub struct Line {
 }
 
 // How many parameters there are, and the cursor past them.
-#[derive(Clone, Copy)]
+#[derive(Clone, Copy, PartialEq, Eq)]
 pub struct Params {
     pub count: usize,
     pub next: Cursor,
@@ -63,8 +64,7 @@ fn name_if(due: bool, text: &[u8], c: Cursor) -> Option<Name>
         c.name(text)
     } else {
         Some(Name {
-            at: 0,
-            len: 0,
+            part: NamePart::default(),
             hash: 0,
             next: c,
         })
@@ -106,8 +106,7 @@ pub fn line_at(text: &[u8], at: usize) -> Option<Line>
         sort: shape.sort,
         start: start.value,
         end: end.value,
-        name: name.at,
-        len: name.len,
+        name: name.part,
         hash: name.hash,
         count0: count0.value,
         count1: count1.value,

@@ -9,14 +9,14 @@ use read_fields::Cursor;
 use spec_text::{Sort, line_kind};
 
 // A word's place in the table.
-#[derive(Clone, Copy)]
+#[derive(Clone, Copy, PartialEq, Eq)]
 pub struct Kind {
     pub kind: usize,
     pub next: Cursor,
 }
 
 // Which fields a word's line has, and the class of places where it is due.
-#[derive(Clone, Copy)]
+#[derive(Clone, Copy, PartialEq, Eq)]
 pub struct Shape {
     pub spanned: bool,
     pub named: bool,
@@ -26,7 +26,7 @@ pub struct Shape {
 }
 
 // How many lines of each sort are due below a line, in their order.
-#[derive(Clone, Copy)]
+#[derive(Clone, Copy, PartialEq, Eq)]
 pub struct Children {
     pub exprs: usize,
     pub stmts: usize,
