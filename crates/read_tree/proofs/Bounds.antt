@@ -14,7 +14,7 @@ pub record Fresh (text : Bytes) (at n : ℕ) (l : Line) : Type 0 where
   pub few : n ≤ 4_097
   pub onward : at < l.next
   pub inside : l.next ≤ length text
-  pub name : (l.len ≡ 0 → ⊥) → l.name < length text
+  pub name : (l.name.len ≡ 0 → ⊥) → l.name.offset < length text
   pub below : Few (children_by l.kind l.count0 l.count1 l.count2)
 
 pub fresh : (text : Bytes) (at s n d : ℕ) {l : Line} → due_at text at s n d ≡ Ok l → Fresh text at n l

@@ -34,7 +34,7 @@ due_at text at sort n d = cond (leb (length text) at) (refused_for LineMissing n
 
 -- ---- rows
 unfoldable pub row_written : Bytes → ℕ → ℕ → Line → List ℕ → List ℕ
-row_written text i at l w = cond (eqb l.len 0) (placed (put w i l.kind) i at) (added text (put w i l.kind) i l.name l.len l.hash)
+row_written text i at l w = cond (eqb l.name.len 0) (placed (put w i l.kind) i at) (added text (put w i l.kind) i l.name.offset l.name.len l.hash)
 
 unfoldable pub row_closed : ℕ → ℕ → List ℕ → List ℕ
 row_closed i rows w = put w i (kind_at w i + 32 * (rows - (i + 1)))

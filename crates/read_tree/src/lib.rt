@@ -65,14 +65,14 @@ fn line_due(text: &[u8], at: usize, sort: Sort, n: usize, levels: usize) -> Resu
 // Writes row i: its kind, and its name or where its line starts.
 #[tactic(auto, unfolding(crate::specs::MachineModel::row_written))]
 fn write_row(text: &[u8], work: &mut [u32], i: usize, at: usize, line: Line)
-    requires { (i ≤ 4096) × ((line.len ≡ 0 → ⊥) → line.name < 4294967296) }
+    requires { (i ≤ 4096) × ((line.name.len ≡ 0 → ⊥) → line.name.offset < 4294967296) }
     ensures { work.new ≡ row_written text.now i at line work.old }
 {
     work_rows::put(work, i, line.kind);
-    if line.len == 0 {
+    if line.name.len == 0 {
         read_names::place(work, i, at)
     } else {
-        read_names::add(text, work, i, line.name, line.len, line.hash)
+        read_names::add(text, work, i, line.name, line.hash)
     }
 }
 
