@@ -1,9 +1,5 @@
 -- A name bound where a statement or an expression stands: which mark is raised, by the test for a lambda.
-use Prim.Native.Nat.{ℕ}
-use mathlib.Core.Path.{◌≡◌, ap}
-use mathlib.Core.Bool.{cond}
-use mathlib.Core.List.{List}
-use borrow.Author.Tests.{eq-eqb}
+use Rattle.std.proofs.Common.{ℕ, ◌≡◌, ap, cond, List, eq-eqb}
 use Rattle.work_marks.specs.MarksModel.{raised_block, raised_lambda}
 use Rattle.walk_scopes.specs.ScopesModel.{Scope, defined}
 

@@ -1,9 +1,6 @@
 -- The scope of a row, and the one below another, by the tests for the module.
-use Prim.Native.Nat.{ℕ, ◌-◌, ◌≤◌, ◌<◌}
-use mathlib.Core.Path.{◌≡◌, ap}
-use mathlib.Core.Bool.{cond}
-use mathlib.Core.List.{List}
-use borrow.Author.Tests.{le-leb, lt-leb}
+use Rattle.std.proofs.Common.{ℕ, ◌-◌, ◌≤◌, ◌<◌, ◌≡◌, ap, cond, List, le-leb}
+use Rattle.std.proofs.lemmas.Bool.{lt-leb}
 use Rattle.work_rows.specs.Layout.{rows_most}
 use Rattle.work_marks.specs.MarksModel.{link_at}
 use Rattle.walk_scopes.specs.declared.ScopeStack.{ScopeStack}

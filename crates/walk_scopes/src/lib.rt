@@ -25,7 +25,9 @@ pub enum Home {
 
 // The scope on top: its home, its row and the row after it. The module goes by the row ROWS_MOST and its number of
 // rows, which is after every row that there can be.
-#[derive(Clone, Copy)]
+// Kept: a number for the module's row and no variant with its rows: a block links to the scope around by a number in the
+// buffer, so the module needs one as well.
+#[derive(Clone, Copy, PartialEq, Eq)]
 pub struct ScopeStack {
     pub home: Home,
     pub row: usize,

@@ -4,7 +4,7 @@ ghost use Rattle.std.specs.Prelude.{◌≡◌, ◌<◌};
 use crate::{Home, ScopeStack};
 
 // The lambdas around an expression, in its home: the rows after the outermost and the innermost.
-#[derive(Clone, Copy)]
+#[derive(Clone, Copy, PartialEq, Eq)]
 pub struct Lambdas {
     pub outer: usize,
     pub inner: usize,
@@ -13,7 +13,7 @@ pub struct Lambdas {
 }
 
 // The scope on top, and the lambdas around, if there are any.
-#[derive(Clone, Copy)]
+#[derive(Clone, Copy, PartialEq, Eq)]
 pub struct Scope {
     pub top: ScopeStack,
     pub lambdas: Option<Lambdas>,

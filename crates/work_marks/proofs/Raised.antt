@@ -1,12 +1,6 @@
 -- A mark is raised: the number is written anew if the name is one and the mark is before the end, and else the buffer stays. One law
 -- for the two marks, by the ways of the two tests.
-use Prim.Native.Nat.{ℕ, ◌≤◌, ◌<◌}
-use native.Mathlib.Omega.{arith}
-use mathlib.Core.Path.{◌≡◌, refl}
-use mathlib.Core.Bool.{Bool, true, false, cond}
-use mathlib.Core.List.{List}
-use lib.Dec.{ltb}
-use borrow.Author.Tests.{ltb-true, ltb-false}
+use Rattle.std.proofs.Common.{ℕ, ◌≤◌, ◌<◌, arith, ◌≡◌, refl, Bool, true, false, cond, List, ltb, ltb-true, ltb-false}
 use Rattle.work_rows.specs.Layout.{rows_most}
 
 -- v is the buffer w with the mark m of the name a written as e

@@ -1,15 +1,9 @@
 -- What each write of a mark, a slot, a stamp or a flag leaves in the work buffer: what is written is there, the same of other names and rows
 -- stays, and so does all else (`Kept`: the rows, the second numbers, the heads). It follows from one law: where a number is written, a
 -- part of the numbers stays if the number that stood there had the same part.
-use Prim.Native.Nat.{ℕ, ◌+◌, ◌/◌, ◌%◌, ◌≤◌, ◌<◌, max}
-use native.Mathlib.Omega.{arith}
-use mathlib.Core.Path.{◌≡◌, refl, sym, ap, ◌∙◌, subst}
-use mathlib.Core.Bool.{Bool, true, false, cond}
-use mathlib.Core.List.{List}
-use lib.Dec.{eqb, ltb}
-use lib.ListN.{length, get_or, length-set}
-use lib.Seq.{get_or-set_same, get_or-set_other, set_out}
-use borrow.Author.Tests.{eqb-true, eqb-false, ltb-true, ltb-false}
+use Rattle.std.proofs.Common.{ℕ, ◌+◌, ◌/◌, ◌%◌, ◌≤◌, ◌<◌, max, arith, ◌≡◌, refl, sym, ap, ◌∙◌, subst, Bool, true, false, cond, List, eqb, ltb, length, get_or, length-set, get_or-set_same, get_or-set_other, eqb-true, ltb-true, ltb-false}
+use Rattle.std.proofs.Math.Seq.{set_out}
+use Rattle.std.proofs.lemmas.Bool.{eqb-false}
 use Rattle.work_rows.specs.Layout.{put, rows_most, head_base, kind_at, number_at}
 use Rattle.work_marks.specs.MarksModel.{stamp_base, lambda_end, block_end, slot_at, stamp_at, flag_at, put_lambda_end, put_block_end, raised_lambda, raised_block, put_slot, put_stamp, put_flag, bare}
 use Rattle.work_marks.proofs.Raised.{raise_has}
@@ -91,7 +85,7 @@ module _ (w : List ℕ) (a e : ℕ) where
       (λ _ m. ap (λ x. x / 131_072) (get_or-set_same w a _ 0 (omega arith)) ∙ omega arith)
 
   -- all numbers but the name's
-  pub raised_lambda_apart : (j : ℕ) → (a < 4_096 → j ≡ a → ⊥) → get_or (raised_lambda w a e) j 0 ≡ get_or w j 0
+  raised_lambda_apart : (j : ℕ) → (a < 4_096 → j ≡ a → ⊥) → get_or (raised_lambda w a e) j 0 ≡ get_or w j 0
   raised_lambda_apart j d = lambda_has (λ v. get_or v j 0 ≡ get_or w j 0) (λ _. refl) (λ l _. put_other w a _ j (d l))
 
   pub raised_lambda_other : (b : ℕ) → (b ≡ a → ⊥) → lambda_end (raised_lambda w a e) b ≡ lambda_end w b
@@ -127,7 +121,7 @@ module _ (w : List ℕ) (a e : ℕ) where
       (λ _ m. ap (λ x. x / 8_192 % 8_192) (get_or-set_same w (head_base + a) _ 0 (omega arith)) ∙ omega arith)
 
   -- all numbers but the one that has the mark
-  pub raised_block_apart : (j : ℕ) → (a < 4_096 → j ≡ 8_192 + a → ⊥) → get_or (raised_block w a e) j 0 ≡ get_or w j 0
+  raised_block_apart : (j : ℕ) → (a < 4_096 → j ≡ 8_192 + a → ⊥) → get_or (raised_block w a e) j 0 ≡ get_or w j 0
   raised_block_apart j d = block_has (λ v. get_or v j 0 ≡ get_or w j 0) (λ _. refl) (λ l _. put_other w (head_base + a) _ j (d l))
 
   pub raised_block_other : (b : ℕ) → (b ≡ a → ⊥) → block_end (raised_block w a e) b ≡ block_end w b
@@ -158,7 +152,7 @@ module _ (w : List ℕ) (i k : ℕ) where
   slot_same room l s = ap (λ x. x / 67_108_864) (get_or-set_same w (head_base + i) _ 0 (omega arith)) ∙ omega arith
 
   -- all numbers but the one that has the slot
-  pub slot_apart : (j : ℕ) → (j ≡ 8_192 + i → ⊥) → get_or (put_slot w i k) j 0 ≡ get_or w j 0
+  slot_apart : (j : ℕ) → (j ≡ 8_192 + i → ⊥) → get_or (put_slot w i k) j 0 ≡ get_or w j 0
   unfolding put_slot
   slot_apart j d = put_other w (head_base + i) _ j d
 

@@ -1,8 +1,11 @@
 // The parts of the work buffer's numbers in which the walk keeps what it finds.
 ghost use Rattle.std.specs.Prelude.{◌≡◌, ◌*◌, ◌<◌, ◌≤◌};
 
+use crate::MARKS;
+use work_rows::ROWS_MOST;
+
 // A part of each of the numbers from `base` on: what stands below it is less than `below`, and it has so many values.
-#[derive(Clone, Copy)]
+#[derive(Clone, Copy, PartialEq, Eq)]
 pub struct Bits {
     pub base: usize,
     pub below: usize,
@@ -13,7 +16,7 @@ pub struct Bits {
 }
 
 impl Bits {
-    ghost use Rattle.work_marks.specs.Parts.{part_at, put_part};
+    ghost use Rattle.work_marks.specs.Parts.{part_at, put_part, raised_part};
 
     // The part of the number at `base + i`, and 0 past the end.
     #[inline]
@@ -38,5 +41,17 @@ impl Bits {
             at,
             low + self.below * (v % self.values) + above * (x / above),
         )
+    }
+
+    // Raises the mark of a name to a row, if it is before that.
+    // Kept: `name < ROWS_MOST`, and no type for a name's row: a name's number comes out of the buffer, and whatever
+    // stands there, the test keeps the mark in its part.
+    #[tactic(auto, unfolding(crate::specs::Parts::raised_part))]
+    pub fn raise(self, work: &mut [u32], name: usize, end: usize)
+        ensures { work.new ≡ raised_part self work.old name end }
+    {
+        if name < ROWS_MOST && self.get(work, name) < end {
+            self.put(work, name, end % MARKS);
+        }
     }
 }

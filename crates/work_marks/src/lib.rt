@@ -1,7 +1,7 @@
 // Marks of names and slots of rows, in the bits of the work buffer that the rows and the names leave free.
 #![tactic(auto)]
 
-ghost use Rattle.std.specs.Prelude.{◌≡◌, ◌<◌, ◌≤◌, length, not, eqb};
+ghost use Rattle.std.specs.Prelude.{◌≡◌, ◌<◌, ◌+◌, min, length, not, eqb};
 ghost use Rattle.spec_faults.specs.Kinds.{kind_number};
 ghost use Rattle.work_marks.specs.MarksModel.{lambda_end, block_end, slot_at, stamp_at, flag_at, link_at, put_slot};
 ghost use Rattle.work_marks.specs.MarksModel.{put_stamp, put_flag, put_link, unmarked, unstamped, raised_lambda};
@@ -9,7 +9,8 @@ ghost use Rattle.work_marks.specs.MarksModel.{raised_block};
 ghost use Rattle.work_marks.specs.Signs.{fault_of, own_number, own_by_number};
 
 use spec_faults::FaultKind;
-use work_rows::{HEAD_BASE, ROWS_MOST};
+use std::ops::Range;
+use work_rows::HEAD_BASE;
 
 mod bits;
 mod own;
@@ -24,6 +25,7 @@ const STAMP_BASE: usize = 12288;
 const MARKS: usize = 8192;
 
 // A row that no read is at or after: the largest that a stamp holds.
+// Kept: a row and no enum, since it is only compared with rows, as any stamp is.
 pub const NEVER: usize = 8191;
 
 // A mark of a lambda stands above a row, that of a block above the head of a chain of names, and a slot above that.
@@ -59,6 +61,7 @@ const LINK: Bits = Bits {
 };
 
 // The row after the outermost lambda around that has the name as a parameter.
+// Kept: of marks and stamps 0 for none, and no Option: each is only compared with a row, and none is before row 0.
 pub fn lambda_end(work: &[u32], name: usize) -> usize
     ensures { result ≡ lambda_end work.now name }
 {
@@ -73,23 +76,19 @@ pub fn block_end(work: &[u32], name: usize) -> usize
 }
 
 // The name is open as a parameter of a lambda up to the row `end`, at least.
-#[tactic(auto, unfolding(crate::specs::MarksModel::raised_lambda))]
+#[tactic(auto, unfolding(crate::specs::MarksModel::raised_lambda, crate::specs::Parts::raised_part))]
 pub fn raise_lambda(work: &mut [u32], name: usize, end: usize)
     ensures { work.new ≡ raised_lambda work.old name end }
 {
-    if name < ROWS_MOST && lambda_end(work, name) < end {
-        LAMBDA_END.put(work, name, end % MARKS);
-    }
+    LAMBDA_END.raise(work, name, end)
 }
 
 // The name is bound up to the row `end`, at least.
-#[tactic(auto, unfolding(crate::specs::MarksModel::raised_block))]
+#[tactic(auto, unfolding(crate::specs::MarksModel::raised_block, crate::specs::Parts::raised_part))]
 pub fn raise_block(work: &mut [u32], name: usize, end: usize)
     ensures { work.new ≡ raised_block work.old name end }
 {
-    if name < ROWS_MOST && block_end(work, name) < end {
-        BLOCK_END.put(work, name, end);
-    }
+    BLOCK_END.raise(work, name, end)
 }
 
 // Whether row i has a fault: whether its slot has a number.
@@ -157,20 +156,27 @@ pub fn put_link(work: &mut [u32], i: usize, row: usize)
     LINK.put(work, i, row)
 }
 
+// Where the numbers of the first rows from `base` on stand: as many as the buffer has.
+fn first_rows(work: &[u32], base: usize, rows: usize) -> Range<usize>
+    ensures { (result.start ≡ min base (length work.now)) × (result.end ≡ min (base + rows) (length work.now)) }
+{
+    base.min(work.len())..base.saturating_add(rows).min(work.len())
+}
+
 // Of the first rows no mark of a block and no fault is left. The heads of the chains of names stay.
 pub fn forget_marks(work: &mut [u32], rows: usize)
-    requires { (rows ≤ 4096) × (16384 ≤ length work.old) }
     ensures { work.new ≡ unmarked rows work.old }
 {
-    for x in work[HEAD_BASE..HEAD_BASE + rows].iter_mut() {
+    let part = first_rows(work, HEAD_BASE, rows);
+    for x in work[part].iter_mut() {
         *x %= 8192;
     }
 }
 
 // And no stamp.
 pub fn forget_stamps(work: &mut [u32], rows: usize)
-    requires { (rows ≤ 4096) × (16384 ≤ length work.old) }
     ensures { work.new ≡ unstamped rows work.old }
 {
-    work[STAMP_BASE..STAMP_BASE + rows].fill(0)
+    let part = first_rows(work, STAMP_BASE, rows);
+    work[part].fill(0)
 }

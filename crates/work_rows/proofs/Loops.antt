@@ -14,7 +14,7 @@ module _ {A : Type 0} (next : A → ℕ → ℕ) (f : ℕ → A → A) where
   each_end (suc k) at stop w l = ap (λ t. cond t (each next f k (next w at) stop (f at w)) w) (le-ltb at stop l)
 
   module _ (on : (v : A) (i : ℕ) → i < next v i) where
-    pub each_fuel : (k m at stop : ℕ) (w : A) → stop - at ≤ k → stop - at ≤ m → each next f k at stop w ≡ each next f m at stop w
+    each_fuel : (k m at stop : ℕ) (w : A) → stop - at ≤ k → stop - at ≤ m → each next f k at stop w ≡ each next f m at stop w
     unfolding each
     each_fuel zero m at stop w a b = sym (each_end m at stop w (omega arith))
     each_fuel (suc k) zero at stop w a b = each_end (suc k) at stop w (omega arith)

@@ -1,4 +1,6 @@
 // The work buffer's numbers: read and written at any index, and the parts of a row.
+// Kept: functions of a buffer and a row, since the buffer is the caller's (C lends it): a struct round it would be made
+// anew at each call, and each contract would say which buffer it lends.
 #![tactic(auto)]
 
 ghost use Rattle.std.specs.Prelude.{◌≡◌, ◌+◌, ◌%◌, ◌<◌, ◌≤◌, get_or};
@@ -30,6 +32,7 @@ pub enum SameName {
 }
 
 // The number at i, and 0 past the end.
+// Kept: no Option, since an index is often a number of the buffer itself, and what follows from the 0 is defined too.
 pub fn get(work: &[u32], i: usize) -> usize
     ensures { (result ≡ get_or work.now i 0) × (result < 4294967296) }
 {
@@ -37,7 +40,8 @@ pub fn get(work: &[u32], i: usize) -> usize
 }
 
 // A number at i, if there is room; 32 bits of it.
-// Kept: through `get_mut` of a slice a proof learns the length of what is written and none of its numbers.
+// Kept: through `get_mut` of a slice a proof learns the length of what is written and none of its numbers. And `v as u32`
+// has to lose nothing: so it is cut before.
 pub fn put(work: &mut [u32], i: usize, v: usize)
     ensures { work.new ≡ put work.old i v }
 {
