@@ -1,14 +1,9 @@
 -- Which names are assigned along the rows of a def's body, as the walk of the tree has them and as the def's notes have them: the same.
 -- The idea: from row to row of a part, the notes of the def add just those of the part to what was assigned before it (`Assigns`); a
 -- note counts after the part's first row and up to the row after its last, or never. So a part splits into its parts.
-use Prim.Native.Nat.{ℕ, suc, ◌+◌, ◌≤◌, ◌<◌}
-use native.Mathlib.Omega.{arith}
-use mathlib.Core.Path.{◌≡◌, refl, sym, ap, ap₂, ◌∙◌}
-use mathlib.Core.Bool.{false, ◌&&◌, ◌||◌, or_assoc, or_comm, or-false}
-use mathlib.Core.List.{List, [], ◌∷◌, ◌++◌, map}
-use mathlib.Core.Logic.{◌⊎◌, inl, inr}
-use lib.Dec.{leb}
-use borrow.Author.Tests.{le-leb, lt-leb}
+use Rattle.std.proofs.Common.{ℕ, suc, ◌+◌, ◌≤◌, ◌<◌, arith, ◌≡◌, refl, sym, ap, ap₂, ◌∙◌, false, ◌&&◌, ◌||◌, List, [], ◌∷◌, ◌++◌, map, ◌⊎◌, inl, inr, leb, le-leb}
+use Rattle.std.proofs.Math.Bool.{or_assoc, or_comm, or-false}
+use Rattle.std.proofs.lemmas.Bool.{lt-leb}
 use Rattle.spec_text.specs.Bytes.{Bytes, Part, same, mem}
 use Rattle.spec_text.specs.Tree.{Line, Expr, Exprs, Stmt, Stmts, var, node, access, tuple, call, lambda, enil, econs, simple, assign, block, choice, for, def, class, snil, scons, len_e, len_es, len_s, len_ss}
 use Rattle.spec_faults.specs.Rust.{collect_locals, collect_locals_of, collect_locals_from_target, collect_locals_from_targets}

@@ -1,7 +1,5 @@
 -- Where nothing but fourth numbers changes: rows, names, heads, marks and slots stay.
-use Prim.Native.Nat.{ℕ, ◌+◌, ◌<◌}
-use mathlib.Core.Path.{◌≡◌, refl, ◌∙◌}
-use mathlib.Core.List.{List}
+use Rattle.std.proofs.Common.{ℕ, ◌+◌, ◌<◌, ◌≡◌, refl, ◌∙◌, List}
 use Rattle.work_rows.specs.Layout.{put}
 use Rattle.work_marks.specs.MarksModel.{stamp_base, lambda_end, block_end, slot_at}
 use Rattle.work_marks.proofs.Writes.{Words, Kept, kept_refl, kept_trans, fourth_lambda, fourth_block, fourth_slot, kept_fourth, words_fourth}

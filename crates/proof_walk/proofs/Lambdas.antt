@@ -1,13 +1,8 @@
 -- The way into a lambda and out of it: its parameters are marked up to its end, and the rows of its body, which it ends with, are a step of the
 -- rows around. Where it is the outermost one, no name is blamed at its line before it, and all that its rows marked is closed after it.
-use Prim.Native.Nat.{ℕ, suc, ◌+◌, ◌/◌, ◌≤◌, ◌<◌, max}
-use native.Mathlib.Omega.{arith}
-use mathlib.Core.Path.{◌≡◌, refl, sym, ap, ap₂, ◌∙◌, subst}
-use mathlib.Core.Bool.{Bool, true, false, cond, ◌&&◌, ◌||◌, and-false, or_assoc, false≢true, true≢false}
-use mathlib.Core.List.{List, [], ◌∷◌}
-use lib.Dec.{eqb}
-use lib.ListN.{get_or}
-use borrow.Author.Tests.{eq-eqb, ne_eqb}
+use Rattle.std.proofs.Common.{ℕ, suc, ◌+◌, ◌/◌, ◌≤◌, ◌<◌, max, arith, ◌≡◌, refl, sym, ap, ap₂, ◌∙◌, subst, Bool, true, false, cond, ◌&&◌, ◌||◌, true≢false, List, [], ◌∷◌, eqb, get_or, eq-eqb, ne_eqb}
+use Rattle.std.proofs.Math.Bool.{and-false, or_assoc}
+use Rattle.std.proofs.lemmas.Bool.{false≢true}
 use Rattle.spec_text.specs.Bytes.{Bytes, Part, mem, same}
 use Rattle.spec_text.specs.Tree.{Line}
 use Rattle.spec_text.proofs.Lists.{same_eq, same_false}

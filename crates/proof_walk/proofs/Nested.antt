@@ -1,12 +1,6 @@
 -- A block in a block: what holds around it before it holds after it, where the walk comes back. Marks that it raised end with it, and it
 -- writes flags in its own rows alone.
-use Prim.Native.Nat.{ℕ, suc, ◌+◌, ◌/◌, ◌≤◌, ◌<◌, max}
-use native.Mathlib.Omega.{arith}
-use mathlib.Core.Path.{◌≡◌, sym, ap, ap₂, ◌∙◌, subst, refl}
-use mathlib.Core.Bool.{Bool, true, false, cond, ◌||◌, true≢false}
-use mathlib.Core.List.{List, [], ◌∷◌, ◌++◌}
-use lib.Dec.{eqb}
-use lib.ListN.{length}
+use Rattle.std.proofs.Common.{ℕ, suc, ◌+◌, ◌/◌, ◌≤◌, ◌<◌, max, arith, ◌≡◌, sym, ap, ap₂, ◌∙◌, subst, refl, Bool, true, false, cond, ◌||◌, true≢false, List, [], ◌∷◌, ◌++◌, eqb, length}
 use Rattle.spec_text.specs.Bytes.{Bytes, Part, mem}
 use Rattle.spec_text.specs.Tree.{Line, Stmts}
 use Rattle.spec_faults.specs.Position.{in_def}

@@ -1,14 +1,9 @@
 -- All notes of a def, noted one after the other: the stamp of each own name is the first row from which it is assigned; nothing else changes.
 -- The idea: what the notes do to one name's stamp is a fold over the notes with that name, and each of them takes the least of the rows. A
 -- stamp that does not come after the def's row is an old one, and counts for nothing. And the notes are forgotten again.
-use Prim.Native.Nat.{ℕ, suc, ◌≤◌, ◌<◌}
-use native.Mathlib.Omega.{arith}
-use mathlib.Core.Path.{◌≡◌, refl, sym, ap, ◌∙◌, subst}
-use mathlib.Core.Bool.{Bool, true, false, cond, ◌&&◌, ◌||◌, and-true, and-false, or_assoc, or-false, true≢false, false≢true}
-use mathlib.Core.List.{List, [], ◌∷◌, ◌++◌, map}
-use lib.Dec.{leb, ltb}
-use lib.ListN.{length}
-use borrow.Author.Tests.{lt-ltb, le-ltb, ltb-true, le-leb, lt-leb, leb-true, leb-false}
+use Rattle.std.proofs.Common.{ℕ, suc, ◌≤◌, ◌<◌, arith, ◌≡◌, refl, sym, ap, ◌∙◌, subst, Bool, true, false, cond, ◌&&◌, ◌||◌, true≢false, List, [], ◌∷◌, ◌++◌, map, leb, ltb, length, lt-ltb, le-ltb, ltb-true, le-leb, leb-true, leb-false}
+use Rattle.std.proofs.Math.Bool.{and-true, and-false, or_assoc, or-false}
+use Rattle.std.proofs.lemmas.Bool.{false≢true, lt-leb}
 use Rattle.spec_text.specs.Bytes.{Bytes, Part, same}
 use Rattle.spec_text.proofs.Lists.{same_eq, same_false}
 use Rattle.work_rows.specs.Layout.{rows_most}

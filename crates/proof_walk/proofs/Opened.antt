@@ -1,16 +1,9 @@
 -- The way into a def or a method: its parameters are bound up to its end; then a def's notes are noted, those of its parameters first, its
 -- rows are flagged, and the notes of its body are forgotten. The code binds and notes one parameter after the other: a mark of a block
 -- and a stamp lie apart, so the order does not matter.
-use Prim.Native.Nat.{ℕ, suc, ◌+◌, ◌*◌, ◌/◌, ◌%◌, ◌≤◌, ◌<◌, max}
-use native.Mathlib.Numerals.{add-one}
-use native.Mathlib.Omega.{arith}
-use mathlib.Core.Path.{◌≡◌, refl, sym, ap, ap₂, ◌∙◌, subst}
-use mathlib.Core.Bool.{Bool, true, false, cond, ◌&&◌, ◌||◌}
-use mathlib.Core.List.{List, [], ◌∷◌, ◌++◌, map}
-use lib.Dec.{eqb, leb, ltb}
-use lib.ListN.{length, get_or}
-use lib.Seq.{set_comm}
-use borrow.Author.Tests.{eqb-true, eqb-false, ne_eqb, ltb-true}
+use Rattle.std.proofs.Common.{ℕ, suc, ◌+◌, ◌*◌, ◌/◌, ◌%◌, ◌≤◌, ◌<◌, max, add-one, arith, ◌≡◌, refl, sym, ap, ap₂, ◌∙◌, subst, Bool, true, false, cond, ◌&&◌, ◌||◌, List, [], ◌∷◌, ◌++◌, map, eqb, leb, ltb, length, get_or, eqb-true, ne_eqb, ltb-true}
+use Rattle.std.proofs.lemmas.List.{set_comm}
+use Rattle.std.proofs.lemmas.Bool.{eqb-false}
 use Rattle.spec_text.specs.Bytes.{Bytes, Part, same, mem}
 use Rattle.spec_text.specs.Tree.{Line, Stmts, def, len_s, len_ss}
 use Rattle.spec_text.proofs.Lists.{same_eq, same_false}

@@ -1,14 +1,7 @@
 -- What the rows of a part give the walk: the row that it stands at, the rows of its parts, and the row after it. Nothing that the walk
 -- writes changes this: it keeps the rows, the second numbers and the heads, and from these alone names are found.
-use Prim.Native.Nat.{ℕ, zero, suc, ◌+◌, ◌-◌, ◌/◌, ◌%◌, ◌≤◌, ◌<◌}
-use native.Mathlib.Omega.{arith}
-use mathlib.Core.Path.{◌≡◌, refl, sym, ap, ap₂, ◌∙◌, subst}
-use mathlib.Core.Bool.{Bool, true, false, cond}
-use mathlib.Core.List.{List, ◌∷◌, ◌++◌, append_assoc}
-use lib.Dec.{leb, ltb}
-use lib.ListN.{length, get_or, drop, length-append, length-drop}
-use lib.Seq.{drop-cons, drop-drop, drop-append_seam}
-use borrow.Author.Tests.{ltb-true}
+use Rattle.std.proofs.Common.{ℕ, zero, suc, ◌+◌, ◌-◌, ◌/◌, ◌%◌, ◌≤◌, ◌<◌, arith, ◌≡◌, refl, sym, ap, ap₂, ◌∙◌, subst, Bool, true, false, cond, List, ◌∷◌, ◌++◌, append_assoc, leb, ltb, length, get_or, drop, length-append, length-drop, drop-cons, drop-drop, ltb-true}
+use Rattle.std.proofs.Math.Seq.{drop-append_seam}
 use Rattle.spec_text.specs.Bytes.{Bytes, same}
 use Rattle.spec_text.specs.Tree.{Line, Expr, Stmt, var, node, access, tuple, call, lambda, simple, assign, block, choice, for, def, class, len_e, len_s}
 use Rattle.read_fields.specs.FieldsModel.{field_at, hash_of}

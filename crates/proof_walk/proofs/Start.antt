@@ -1,16 +1,9 @@
 -- The start of the walk, and the whole of it: no mark, no slot and no stamp are left of what the buffer held; then the given names are bound
 -- in the module, and the statements are walked.
-use Prim.Native.Nat.{ℕ, zero, suc, ◌+◌, ◌/◌, ◌%◌, ◌≤◌, ◌<◌}
-use native.Mathlib.Numerals.{add-one}
-use native.Mathlib.Omega.{arith}
-use mathlib.Core.Path.{◌≡◌, refl, sym, ap, ◌∙◌, subst}
-use mathlib.Core.Logic.{◌≢◌}
-use mathlib.Core.Bool.{Bool, true, false, ◌||◌, or_assoc, or_comm, false≢true}
-use mathlib.Core.List.{List, [], ◌∷◌, ◌++◌, append-nil, map}
-use lib.Dec.{eqb, ltb}
-use lib.ListN.{length, get_or, length-map}
-use lib.Seq.{get_or-set_same, get_or-set_other}
-use borrow.Author.Tests.{eqb-true, eqb-false, ltb-true, ltb-false, le-ltb}
+use Rattle.std.proofs.Common.{ℕ, zero, suc, ◌+◌, ◌/◌, ◌%◌, ◌≤◌, ◌<◌, add-one, arith, ◌≡◌, refl, sym, ap, ◌∙◌, subst, ◌≢◌, Bool, true, false, ◌||◌, List, [], ◌∷◌, ◌++◌, append-nil, map, eqb, ltb, length, get_or, get_or-set_same, get_or-set_other, eqb-true, ltb-true, ltb-false, le-ltb}
+use Rattle.std.proofs.Math.Bool.{or_assoc, or_comm}
+use Rattle.std.proofs.lemmas.Bool.{false≢true, eqb-false}
+use Rattle.std.proofs.lemmas.List.{length-map}
 use Rattle.spec_text.specs.Bytes.{Bytes, Part, mem, same, all}
 use Rattle.spec_text.specs.Tree.{Tree, len_ss, first_line}
 use Rattle.spec_text.proofs.Lists.{and_split, same_eq}

@@ -1,12 +1,7 @@
 -- What holds at each row of the walk: the marks that are open are those of the names in view and of the parameters of the lambdas around; the
 -- flags from here on are those that the def around was opened with; no stamp is of a later def, and no row from here on has a slot.
 -- A mark is either open up to the end of the block around, at least, or closed already: this is what leaving a block has to keep.
-use Prim.Native.Nat.{ℕ, suc, ◌≤◌, ◌<◌, max}
-use mathlib.Core.Path.{◌≡◌}
-use mathlib.Core.Bool.{Bool, true, false, ◌&&◌, ◌||◌}
-use mathlib.Core.List.{List, [], ◌∷◌}
-use lib.Dec.{eqb}
-use lib.ListN.{length}
+use Rattle.std.proofs.Common.{ℕ, suc, ◌≤◌, ◌<◌, max, ◌≡◌, Bool, true, false, ◌&&◌, ◌||◌, List, [], ◌∷◌, eqb, length}
 use Rattle.spec_text.specs.Bytes.{Bytes, Part, mem, same, any}
 use Rattle.spec_faults.specs.Position.{Placed, Home, in_module, in_def, in_method}
 use Rattle.spec_faults.specs.Faults.{Fault, outermost}

@@ -1,10 +1,6 @@
 -- The whole walk over a buffer that holds the rows of a tree leaves in the slots of its statements the faults of the tree, in the text's
 -- order and once for a lambda and a name; and what the rows say stays.
-use Prim.Native.Nat.{ℕ, ◌+◌, ◌-◌, ◌<◌}
-use native.Mathlib.Omega.{arith}
-use mathlib.Core.Path.{◌≡◌, ap, ◌∙◌}
-use mathlib.Core.List.{List, []}
-use lib.ListN.{length}
+use Rattle.std.proofs.Common.{ℕ, ◌+◌, ◌-◌, ◌<◌, arith, ◌≡◌, ap, ◌∙◌, List, [], length}
 use Rattle.spec_text.specs.Bytes.{Bytes}
 use Rattle.spec_text.specs.Tree.{Tree, len_ss, first_line}
 use Rattle.spec_faults.proofs.ListingWalk.{module_env, start_state}

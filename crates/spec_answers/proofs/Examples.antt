@@ -1,10 +1,7 @@
 -- Answers by computation: FORMAT.md's first text, the examples of its tables from 8 on, and the whole way
 -- for a script of some 100 lines.
-use Prim.Native.Nat.{ℕ}
+use Rattle.std.proofs.Common.{ℕ, ◌≡◌, refl, List, [], ◌∷◌, ◌++◌, map, length}
 use Prim.Native.String.{String}
-use mathlib.Core.Path.{◌≡◌, refl}
-use mathlib.Core.List.{List, [], ◌∷◌, ◌++◌, map}
-use lib.ListN.{length}
 use Rattle.spec_text.specs.Bytes.{Bytes, bytes}
 use Rattle.spec_answers.specs.Answers.{written, faulty, refused, check, Outcome, refusing, report, message, name, over}
 use Rattle.spec_answers.specs.Printed.{printed}

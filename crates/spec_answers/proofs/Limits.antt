@@ -1,8 +1,5 @@
 -- The longest texts, as a table like that of refusals in the crate `spec_text`: 65,536 bytes, 4,096 lines after the first. By computation.
-use Prim.Native.Nat.{ℕ}
-use mathlib.Core.Path.{refl}
-use mathlib.Core.List.{List, [], ◌∷◌, ◌++◌}
-use lib.ListN.{replicate}
+use Rattle.std.proofs.Common.{ℕ, refl, List, [], ◌∷◌, ◌++◌, replicate}
 use Rattle.spec_text.specs.Bytes.{Bytes, bytes}
 use Rattle.spec_text.proofs.Examples.{read, refused, Example, example, times, Hold}
 

@@ -1,13 +1,7 @@
 -- The visited lines stand in the text's order, each once: their numbers ascend strictly, within the lines of their part.
 -- So do the faults in the text's order, by the line of their read: a visited line has at most one fault.
 -- By induction over the tree; a part is the parts below it, one after another.
-use Prim.Native.Nat.{ℕ, suc, ◌+◌, ◌≤◌}
-use native.Mathlib.Omega.{arith}
-use native.Mathlib.Nat.{le_refl, le_trans}
-use mathlib.Core.Path.{◌≡◌, refl}
-use mathlib.Core.Bool.{Bool, true, false, cond, not}
-use mathlib.Core.List.{List, [], ◌∷◌, ◌++◌}
-use lib.ListN.{length}
+use Rattle.std.proofs.Common.{ℕ, suc, ◌+◌, ◌≤◌, arith, le_refl, le_trans, ◌≡◌, refl, Bool, true, false, cond, not, List, [], ◌∷◌, ◌++◌, length}
 use Rattle.spec_text.specs.Bytes.{In, here, there}
 use Rattle.spec_text.specs.Tree.{Line, Expr, Exprs, Attrs, Stmt, Stmts, Methods, Tree, var, node, access, tuple, call, lambda, enil, econs, anil, acons, simple, assign, block, choice, for, def, class, snil, scons, mnil, mcons, len_e, len_es, len_as, len_s, len_ss, len_ms, first_line}
 use Rattle.spec_faults.specs.Position.{Home, in_module, in_def, in_method, Where, Use, value, Role, is_read, is_target, is_refused, is_def, is_class, is_lambda, is_other, is_for, is_method, Visited, at_module, under_class, lines_e, lines_es, lines_t, lines_ts, lines_as, lines_s, lines_ss, lines_ms, visited}

@@ -1,10 +1,6 @@
 -- The bindings of a part of the tree, part by part, and where they stand: each within the part's lines, in the block around it
 -- or in a block whose line is in the part.
-use Prim.Native.Nat.{ℕ, suc, ◌+◌, ◌≤◌, ◌<◌}
-use native.Mathlib.Omega.{arith}
-use mathlib.Core.Path.{◌≡◌, refl, sym, ap, ap₂, ◌∙◌}
-use mathlib.Core.Logic.{◌≢◌}
-use mathlib.Core.List.{List, [], ◌∷◌, ◌++◌, append_assoc, append-nil, map}
+use Rattle.std.proofs.Common.{ℕ, suc, ◌+◌, ◌≤◌, ◌<◌, arith, ◌≡◌, refl, sym, ap, ap₂, ◌∙◌, ◌≢◌, List, [], ◌∷◌, ◌++◌, append_assoc, append-nil, map}
 use Rattle.spec_text.specs.Bytes.{Part}
 use Rattle.spec_text.specs.Tree.{Line, Expr, Exprs, Attrs, Stmt, Stmts, Methods, var, node, access, tuple, call, lambda, enil, econs, anil, acons, simple, assign, block, choice, for, def, class, snil, scons, mnil, mcons, len_e, len_es, len_s, len_ss, len_ms}
 use Rattle.spec_faults.specs.Position.{Home, in_module, in_def, in_method, Where, Use, value, Visited, under_class, lines_e, lines_es, lines_t, lines_ts, lines_as, lines_s, lines_ss, lines_ms, under_lambda, under_block}

@@ -1,10 +1,7 @@
 -- The captures of a lambda: the walk lists the names that fail the Rust's check, in the order of the reads, each once. So the check passes
 -- where none is listed, in any order; else it stops at one of them, and in the order of the reads at the first.
-use Prim.Native.Nat.{ℕ, suc, ◌+◌}
-use mathlib.Core.Path.{◌≡◌, refl, sym, ap, ◌∙◌, subst}
-use mathlib.Core.Bool.{Bool, true, false, cond, not, ◌||◌, true≢false}
-use mathlib.Core.List.{List, [], ◌∷◌, ◌++◌}
-use mathlib.Core.Option.{none, some}
+use Rattle.std.proofs.Common.{ℕ, suc, ◌+◌, ◌≡◌, refl, sym, ap, ◌∙◌, subst, Bool, true, false, cond, not, ◌||◌, true≢false, List, [], ◌∷◌, ◌++◌}
+use Rattle.std.proofs.Math.Option.{none, some}
 use Rattle.spec_text.specs.Bytes.{Bytes, Part, same, mem, any, In}
 use Rattle.spec_text.specs.Tree.{Line, Expr, Exprs, var, node, access, tuple, call, lambda, enil, econs, len_e}
 use Rattle.spec_faults.specs.Position.{Placed, Use, value, callee}

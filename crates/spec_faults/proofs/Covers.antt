@@ -1,12 +1,7 @@
 -- A part of the text adds its own bindings, and only them: to what stands earlier from its first line on, and in the blocks whose lines it has.
 -- Where two parts one after the other do so (`Covers`), each of them does.
-use Prim.Native.Nat.{ℕ, suc, ◌≤◌, ◌<◌}
-use native.Mathlib.Omega.{arith}
-use mathlib.Core.Path.{◌≡◌, sym, ap, ◌∙◌}
-use mathlib.Core.Logic.{◌≢◌}
-use mathlib.Core.Bool.{Bool, ◌&&◌, ◌||◌, or_assoc, or-false}
-use mathlib.Core.List.{List, ◌++◌}
-use lib.Dec.{eqb}
+use Rattle.std.proofs.Common.{ℕ, suc, ◌≤◌, ◌<◌, arith, ◌≡◌, sym, ap, ◌∙◌, ◌≢◌, Bool, ◌&&◌, ◌||◌, List, ◌++◌, eqb}
+use Rattle.std.proofs.Math.Bool.{or_assoc, or-false}
 use Rattle.spec_text.specs.Bytes.{any}
 use Rattle.spec_faults.specs.Bindings.{Binding}
 use Rattle.spec_faults.specs.Faults.{earlier}

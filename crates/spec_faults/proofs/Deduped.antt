@@ -1,12 +1,8 @@
 -- The rule "once for a lambda and a name" on the faults in the text's order: of the captures of one lambda and one name, the first stays.
 -- To do this before sorting by place is to do it at each line alone: of the captures before, only those placed at a line count there.
 -- By induction over the list, with the captures before it; what is left is a part of the list, in its order.
-use Prim.Native.Nat.{ℕ}
-use mathlib.Core.Path.{◌≡◌, refl, sym, ap, ◌∙◌}
-use mathlib.Core.Bool.{Bool, true, false, cond, ◌&&◌, ◌||◌}
-use mathlib.Core.List.{List, [], ◌∷◌, ◌++◌, map}
-use lib.Dec.{eqb}
-use borrow.Author.Tests.{eqb-true, eqb-false, eq-eqb, ne_eqb}
+use Rattle.std.proofs.Common.{ℕ, ◌≡◌, refl, sym, ap, ◌∙◌, Bool, true, false, cond, ◌&&◌, ◌||◌, List, [], ◌∷◌, ◌++◌, map, eqb, eqb-true, eq-eqb, ne_eqb}
+use Rattle.std.proofs.lemmas.Bool.{eqb-false}
 use Rattle.spec_text.specs.Bytes.{Part, same, mem, any}
 use Rattle.spec_text.specs.Tree.{Tree, len_ss, first_line}
 use Rattle.spec_faults.specs.Faults.{Fault, capture, by_place, faults}

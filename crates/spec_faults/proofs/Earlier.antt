@@ -1,17 +1,12 @@
 -- Tests over bindings: whether one stands earlier, in a block or in one of some blocks.
 -- A part of the tree binds nothing in a block that is neither around it nor in it, and nothing before its first line: there each test fails.
-use Prim.Native.Nat.{ℕ, suc, ◌≤◌, ◌<◌}
-use native.Mathlib.Omega.{arith}
-use mathlib.Core.Path.{◌≡◌, refl, sym, ap, ap₂, ◌∙◌}
-use mathlib.Core.Logic.{◌≢◌}
-use mathlib.Core.Bool.{Bool, true, false, ◌&&◌, ◌||◌, or_assoc, and-false}
-use mathlib.Core.List.{List, [], ◌∷◌, ◌++◌, map}
-use lib.Dec.{eqb}
+use Rattle.std.proofs.Common.{ℕ, suc, ◌≤◌, ◌<◌, arith, ◌≡◌, refl, sym, ap, ap₂, ◌∙◌, ◌≢◌, Bool, true, false, ◌&&◌, ◌||◌, List, [], ◌∷◌, ◌++◌, map, eqb, ne_eqb, le-leb}
+use Rattle.std.proofs.Math.Bool.{or_assoc, and-false}
+use Rattle.std.proofs.lemmas.Bool.{lt-leb}
 use Rattle.spec_text.specs.Bytes.{Bytes, Part, same, mem, any}
 use Rattle.spec_faults.specs.Position.{Placed, Home, Use}
 use Rattle.spec_faults.specs.Bindings.{by_param, Binding, bind}
 use Rattle.spec_faults.specs.Faults.{earlier, among, bound, judge_read}
-use borrow.Author.Tests.{ne_eqb, le-leb, lt-leb}
 use Rattle.spec_faults.proofs.Lists.{eqb_same, any_same, any_or, any_none, Each, each_map, any_each, any_quiet}
 use Rattle.spec_faults.proofs.Bound.{In, Range}
 

@@ -1,10 +1,5 @@
 -- Every listed fault has a kind from 8 to 15, and one of kind 14 has no name.
-use Prim.Native.Nat.{ℕ, zero, suc, ◌≤◌}
-use native.Mathlib.Omega.{arith}
-use mathlib.Core.Path.{◌≡◌, refl}
-use mathlib.Core.Bool.{Bool, true, false, not}
-use mathlib.Core.List.{List, [], ◌∷◌}
-use lib.Dec.{eqb}
+use Rattle.std.proofs.Common.{ℕ, zero, suc, ◌≤◌, arith, ◌≡◌, refl, Bool, true, false, not, List, [], ◌∷◌, eqb}
 use Rattle.spec_text.specs.Bytes.{no_part}
 use Rattle.spec_text.specs.Tree.{Line, Tree, len_ss, first_line}
 use Rattle.spec_faults.specs.Position.{Placed, Home, in_module, in_def, in_method, Where, Use, value, callee, Role, is_read, is_target, is_refused, is_def, is_class, is_lambda, is_other, is_for, is_method, Visited, visited}

@@ -1,9 +1,7 @@
 -- What the Rust's walk finds beside a list of faults: no error beside none, else an error. For any order of the captured names the error is
 -- an answer beside the list, and in the order of the reads it is the first fault's: both are carried through one induction.
-use mathlib.Core.Path.{◌≡◌, refl, sym, ap, ◌∙◌, subst}
-use mathlib.Core.Bool.{Bool, true, false}
-use mathlib.Core.List.{List, [], ◌∷◌, ◌++◌}
-use mathlib.Core.Option.{none, some}
+use Rattle.std.proofs.Common.{◌≡◌, refl, sym, ap, ◌∙◌, subst, Bool, true, false, List, [], ◌∷◌, ◌++◌}
+use Rattle.std.proofs.Math.Option.{none, some}
 use Rattle.spec_faults.specs.Faults.{Fault, unless}
 use Rattle.spec_faults.specs.Rust.{Order, as_read, SemanticError, Checked, check, and_then, error_of, Answers, no_error, first, captured}
 use Rattle.spec_faults.proofs.Lists.{in_left}

@@ -1,11 +1,8 @@
 -- Each test of a read is a binding that stands there: bound in some blocks, assigned, own.
 -- What is assigned, or bound in the block of a lambda between, is in view.
-use Prim.Native.Nat.{ℕ}
-use mathlib.Core.Path.{◌≡◌, refl, sym, ap, ap₂, ◌∙◌, subst}
-use mathlib.Core.Bool.{Bool, true, false, ◌&&◌, ◌||◌, or-true, false≢true}
-use mathlib.Core.List.{List, [], ◌∷◌}
-use lib.Dec.{eqb}
-use borrow.Author.Tests.{eqb-true, eq-eqb, leb-true, le-leb}
+use Rattle.std.proofs.Common.{ℕ, ◌≡◌, refl, sym, ap, ap₂, ◌∙◌, subst, Bool, true, false, ◌&&◌, ◌||◌, List, [], ◌∷◌, eqb, eqb-true, eq-eqb, leb-true, le-leb}
+use Rattle.std.proofs.Math.Bool.{or-true}
+use Rattle.std.proofs.lemmas.Bool.{false≢true}
 use Rattle.spec_text.specs.Bytes.{Bytes, same, In, here, there}
 use Rattle.spec_text.specs.Tree.{Tree}
 use Rattle.spec_text.proofs.Lists.{same_refl}

@@ -1,10 +1,9 @@
 -- The free names of a lambda's body, and the Rust's check of them: all pass, or one fails, in any order of the names.
 -- Names are judged by one test g; under a lambda with parameters ps the test becomes `bound ps g`.
-use Prim.Native.Nat.{ℕ}
-use mathlib.Core.Path.{◌≡◌, refl, sym, ap, ◌∙◌}
-use mathlib.Core.Bool.{Bool, true, false, cond, not, ◌||◌, or-true, true≢false, false≢true}
-use mathlib.Core.List.{List, [], ◌∷◌, ◌++◌}
-use mathlib.Core.Option.{none, some}
+use Rattle.std.proofs.Common.{ℕ, ◌≡◌, refl, sym, ap, ◌∙◌, Bool, true, false, cond, not, ◌||◌, true≢false, List, [], ◌∷◌, ◌++◌}
+use Rattle.std.proofs.Math.Bool.{or-true}
+use Rattle.std.proofs.lemmas.Bool.{false≢true}
+use Rattle.std.proofs.Math.Option.{none, some}
 use Rattle.spec_text.specs.Bytes.{Bytes, Part, same, mem}
 use Rattle.spec_text.specs.Tree.{Line}
 use Rattle.spec_text.proofs.Lists.{other_same}

@@ -1,19 +1,14 @@
 -- In the text's order, the faults by position of a whole tree are those of a walk that carries the names in view, the locals and the assigned
 -- names (TextWalk). The idea: at each line the names in view are those that a binding standing earlier binds in a block around, and a part
 -- of the tree adds just its own bindings to what stands earlier (Covers). The given names stand before all.
-use Prim.Native.Nat.{ℕ, ◌+◌, ◌≤◌, ◌<◌}
-use native.Mathlib.Omega.{arith}
-use mathlib.Core.Path.{◌≡◌, refl, sym, ap, ap₂, ◌∙◌}
-use mathlib.Core.Bool.{Bool, false, ◌&&◌, ◌||◌, or-false, and-false}
-use mathlib.Core.List.{List, [], ◌∷◌, ◌++◌, map}
-use lib.Dec.{eqb}
+use Rattle.std.proofs.Common.{ℕ, ◌+◌, ◌≤◌, ◌<◌, arith, ◌≡◌, refl, sym, ap, ap₂, ◌∙◌, Bool, false, ◌&&◌, ◌||◌, List, [], ◌∷◌, ◌++◌, map, eqb, ne_eqb, le-leb}
+use Rattle.std.proofs.Math.Bool.{or-false, and-false}
 use Rattle.spec_text.specs.Bytes.{Bytes, Part, same, mem, any}
 use Rattle.spec_text.specs.Tree.{Stmts, Tree, len_ss, first_line}
 use Rattle.spec_faults.specs.Builtins.{builtin_names}
 use Rattle.spec_faults.specs.Position.{in_module, at_module, lines_ss, visited}
 use Rattle.spec_faults.specs.Bindings.{given, Binding, bind, given_to, bindings, counts}
 use Rattle.spec_faults.specs.Faults.{earlier, among, judge}
-use borrow.Author.Tests.{ne_eqb, le-leb}
 use Rattle.spec_faults.proofs.Lists.{any_append}
 use Rattle.spec_faults.proofs.Bound.{binds_ss, bound_ss, range_ss}
 use Rattle.spec_faults.proofs.ListingWalk.{module_env, start_state}

@@ -1,13 +1,8 @@
 -- A name is bound, earlier, in the block of a lambda between a visited line and its home exactly when it is a parameter of such a lambda.
 -- By induction over the tree each lambda between is a visited line before, and no home's block is a lambda's: what is bound in a lambda's
 -- block is bound by the line of that number, and that is the lambda.
-use Prim.Native.Nat.{ℕ, suc, ◌≤◌, ◌<◌}
-use native.Mathlib.Omega.{arith}
-use native.Mathlib.Nat.{le_refl, le_trans}
-use mathlib.Core.Path.{◌≡◌, refl, sym, ap, ◌∙◌, subst}
-use mathlib.Core.Logic.{◌↔◌, ◌⊎◌, inl, inr, ⊎_elim}
-use mathlib.Core.Bool.{false≢true}
-use mathlib.Core.List.{List, [], ◌∷◌, ◌++◌}
+use Rattle.std.proofs.Common.{ℕ, suc, ◌≤◌, ◌<◌, arith, le_refl, le_trans, ◌≡◌, refl, sym, ap, ◌∙◌, subst, ◌↔◌, ◌⊎◌, inl, inr, ⊎_elim, List, [], ◌∷◌, ◌++◌}
+use Rattle.std.proofs.lemmas.Bool.{false≢true}
 use Rattle.spec_text.specs.Bytes.{Part, In, here, there}
 use Rattle.spec_text.specs.Tree.{Line, Expr, Exprs, Attrs, Stmt, Stmts, Methods, Tree, var, node, access, tuple, call, lambda, enil, econs, anil, acons, simple, assign, block, choice, for, def, class, snil, scons, mnil, mcons, first_line}
 use Rattle.spec_faults.specs.Builtins.{builtin_names}

@@ -1,9 +1,7 @@
 -- A walk that lists every fault: the names in view, a def's locals and its assigned names go down the tree, and each fault is listed
 -- where it is found. It stands between the faults by position and the Rust walk, and is what code can follow.
 -- The names in view are one list: a block's names are put in front on the way in, and what was there before counts again on the way out.
-use Prim.Native.Nat.{ℕ, suc, ◌+◌}
-use mathlib.Core.Bool.{Bool, cond, not}
-use mathlib.Core.List.{List, [], ◌∷◌, ◌++◌}
+use Rattle.std.proofs.Common.{ℕ, suc, ◌+◌, Bool, cond, not, List, [], ◌∷◌, ◌++◌}
 use Rattle.spec_text.specs.Bytes.{Part, mem}
 use Rattle.spec_text.specs.Tree.{Line, Expr, Exprs, Stmt, Stmts, Methods, Tree, var, node, access, tuple, call, lambda, enil, econs, simple, assign, block, choice, for, def, class, snil, scons, mnil, mcons, len_e, len_s, len_ss, first_line}
 use Rattle.spec_faults.specs.Builtins.{builtin_names}

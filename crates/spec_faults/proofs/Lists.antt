@@ -1,13 +1,7 @@
 -- Laws of tests, names and lists that the theorems about faults share.
-use Prim.Native.Nat.{ℕ, ◌+◌, ◌≤◌}
-use native.Mathlib.Omega.{arith}
-use mathlib.Core.Path.{◌≡◌, refl, sym, ap, ap₂, ◌∙◌}
-use mathlib.Core.Logic.{◌⊎◌, inl, inr, ⊎_elim}
-use mathlib.Core.Bool.{Bool, true, false, cond, ◌&&◌, ◌||◌, or_assoc, or-true, false≢true}
-use mathlib.Core.List.{List, [], ◌∷◌, ◌++◌, map}
-use lib.Dec.{eqb}
-use lib.ListN.{length}
-use borrow.Author.Tests.{eq-eqb}
+use Rattle.std.proofs.Common.{ℕ, ◌+◌, ◌≤◌, arith, ◌≡◌, refl, sym, ap, ap₂, ◌∙◌, ◌⊎◌, inl, inr, ⊎_elim, Bool, true, false, cond, ◌&&◌, ◌||◌, List, [], ◌∷◌, ◌++◌, map, eqb, length, eq-eqb}
+use Rattle.std.proofs.Math.Bool.{or_assoc, or-true}
+use Rattle.std.proofs.lemmas.Bool.{false≢true}
 use Rattle.spec_text.specs.Bytes.{Bytes, Part, same, mem, any, all, In, here, there}
 pub use Rattle.spec_text.proofs.Lists.{and_split, eqb_sym, same_refl, same_eq, All, all_nil as none, all_cons as also}
 use Rattle.spec_faults.specs.Position.{Visited}

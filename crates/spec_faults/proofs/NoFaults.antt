@@ -1,13 +1,8 @@
 -- A tree has no fault exactly when the rule holds of it: a line has none exactly when what the rule says of its role holds, and the list by
 -- place is empty only where nothing was judged at fault.
-use Prim.Native.Nat.{ℕ, zero, suc, ◌+◌, ◌≤◌, ◌<◌}
-use native.Mathlib.Omega.{arith}
-use mathlib.Core.Path.{◌≡◌, refl, sym, ap, ap₂, ◌∙◌, subst}
-use mathlib.Core.Logic.{◌↔◌, ◌⊎◌, inl, inr}
-use mathlib.Core.Bool.{Bool, true, false, cond, not, false≢true, true≢false}
-use mathlib.Core.List.{List, [], ◌∷◌, ◌++◌, nil≢cons}
-use lib.Dec.{eqb}
-use borrow.Author.Tests.{eqb-false, not-false}
+use Rattle.std.proofs.Common.{ℕ, zero, suc, ◌+◌, ◌≤◌, ◌<◌, arith, ◌≡◌, refl, sym, ap, ap₂, ◌∙◌, subst, ◌↔◌, ◌⊎◌, inl, inr, Bool, true, false, cond, not, true≢false, List, [], ◌∷◌, ◌++◌, eqb}
+use Rattle.std.proofs.lemmas.Bool.{false≢true, eqb-false, not-false}
+use mathlib.Core.List.{nil≢cons}
 use Rattle.spec_text.specs.Bytes.{bytes, same, Part, In, here, there}
 use Rattle.spec_text.specs.Tree.{Line, Tree, len_ss, first_line}
 use Rattle.spec_text.proofs.Lists.{same_refl}

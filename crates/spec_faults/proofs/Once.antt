@@ -1,14 +1,9 @@
 -- The rule "once for a lambda and a name", as a walk through the text meets it: of the captures placed at a line, the first with each name.
 -- The rule asks whether any fault precedes; as the faults ascend by line, those that precede are those met before.
 -- By induction over the faults: a fault's question is asked of the names seen so far and of the faults yet to come, and of these none precedes.
-use Prim.Native.Nat.{ℕ, zero, suc, ◌≤◌}
-use native.Mathlib.Omega.{arith}
-use native.Mathlib.Nat.{le_refl}
-use mathlib.Core.Path.{◌≡◌, refl, sym, ap, ap₂, ◌∙◌}
-use mathlib.Core.Bool.{Bool, true, false, not, ◌&&◌, ◌||◌, and-false, or_assoc, or_comm, or-false}
-use mathlib.Core.List.{List, [], ◌∷◌, ◌++◌}
-use lib.Dec.{eqb}
-use borrow.Author.Tests.{eqb-true, eqb-false, eq-eqb, ne_eqb, lt-ltb, le-ltb}
+use Rattle.std.proofs.Common.{ℕ, zero, suc, ◌≤◌, arith, le_refl, ◌≡◌, refl, sym, ap, ap₂, ◌∙◌, Bool, true, false, not, ◌&&◌, ◌||◌, List, [], ◌∷◌, ◌++◌, eqb, eqb-true, eq-eqb, ne_eqb, lt-ltb, le-ltb}
+use Rattle.std.proofs.Math.Bool.{and-false, or_assoc, or_comm, or-false}
+use Rattle.std.proofs.lemmas.Bool.{eqb-false}
 use Rattle.spec_text.specs.Bytes.{Bytes, same, Part, mem, any}
 use Rattle.spec_text.specs.Tree.{Tree, len_ss, first_line}
 use Rattle.spec_faults.specs.Position.{Visited, visited}

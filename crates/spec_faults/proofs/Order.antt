@@ -1,19 +1,11 @@
 -- Put in the order of their places, and once for a lambda and a name, the faults in the text's order are what the walk lists.
 -- The idea: the faults of a part are placed at its lines, or at the call or the outermost lambda around it; so two parts one after the
 -- other list one after the other, and a lambda lists its captures before what is faulty inside.
-use Prim.Native.Nat.{ℕ, zero, suc, ◌+◌, ◌≤◌, ◌<◌}
-use native.Mathlib.Omega.{arith}
-use native.Mathlib.Nat.{zero-add, add-zero, suc-add, add-suc}
-use mathlib.Core.Path.{◌≡◌, refl, sym, ap, ap₂, ◌∙◌}
-use mathlib.Core.Logic.{◌≢◌}
-use mathlib.Core.Bool.{Bool, true, false, cond, not}
-use mathlib.Core.List.{List, [], ◌∷◌, ◌++◌, append_assoc, append-nil}
-use lib.Dec.{eqb}
+use Rattle.std.proofs.Common.{ℕ, zero, suc, ◌+◌, ◌≤◌, ◌<◌, arith, zero-add, add-zero, suc-add, add-suc, ◌≡◌, refl, sym, ap, ap₂, ◌∙◌, ◌≢◌, Bool, true, false, cond, not, List, [], ◌∷◌, ◌++◌, append_assoc, append-nil, eqb, ne_eqb}
 use Rattle.spec_text.specs.Bytes.{mem}
 use Rattle.spec_text.specs.Tree.{Line, Expr, Exprs, Stmt, Stmts, Methods, Tree, var, node, access, tuple, call, lambda, enil, econs, simple, assign, block, choice, for, def, class, snil, scons, mnil, mcons, len_e, len_es, len_as, len_s, len_ss, len_ms, first_line}
 use Rattle.spec_faults.specs.Position.{Placed, Home, in_module, in_def, in_method, Use, value, callee}
 use Rattle.spec_faults.specs.Faults.{Fault, fault_at, outermost, unbound_here, undefined_here, judge_read, lacks_self, refused_at, selfless, unless, faults}
-use borrow.Author.Tests.{ne_eqb}
 use Rattle.spec_faults.proofs.Lists.{eqb_same}
 use Rattle.spec_faults.proofs.ListingWalk.{State, assigning, naming, entered, after_t, after_s, after_ss, Mode, plain, captures, inside, Env, with_params, def_env, method_env, module_env, in_classes, test, once, walk_e, walk_es, walk_t, walk_ts, walk_s, walk_ss, walk_ms, start_state, walk}
 use Rattle.spec_faults.proofs.Once.{placed, by_place_once, faults_once}

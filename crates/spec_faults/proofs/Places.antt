@@ -1,11 +1,7 @@
 -- Every fault of a tree has its place within the tree's lines.
 -- A read's place is its line, its call's or that of a lambda around it, and all of them lie within the part that is walked: by induction over
 -- the tree, with the call and the lambdas around a part given to lie there.
-use Prim.Native.Nat.{ℕ, suc, ◌+◌, ◌≤◌, ◌<◌}
-use native.Mathlib.Omega.{arith}
-use native.Mathlib.Nat.{le_refl}
-use mathlib.Core.Bool.{Bool, true, false, not}
-use mathlib.Core.List.{List, [], ◌∷◌}
+use Rattle.std.proofs.Common.{ℕ, suc, ◌+◌, ◌≤◌, ◌<◌, arith, le_refl, Bool, true, false, not, List, [], ◌∷◌}
 use Rattle.spec_text.specs.Tree.{Line, Expr, Exprs, Attrs, Stmt, Stmts, Methods, Tree, var, node, access, tuple, call, lambda, enil, econs, anil, acons, simple, assign, block, choice, for, def, class, snil, scons, mnil, mcons, len_e, len_es, len_s, len_ss, len_ms, first_line}
 use Rattle.spec_faults.specs.Position.{Placed, Home, in_module, in_def, in_method, Where, Use, value, callee, Visited, at_module, under_lambda, under_block, under_class, lines_e, lines_es, lines_t, lines_ts, lines_as, lines_s, lines_ss, lines_ms, visited}
 use Rattle.spec_faults.specs.Bindings.{Binding, bindings}

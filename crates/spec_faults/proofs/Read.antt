@@ -1,7 +1,5 @@
 -- A read has no fault, or one: it is on the read's line, and its place is the read, its call or the outermost lambda around it.
-use Prim.Native.Nat.{ℕ}
-use mathlib.Core.Bool.{Bool, true, false}
-use mathlib.Core.List.{List, [], ◌∷◌}
+use Rattle.std.proofs.Common.{ℕ, Bool, true, false, List, [], ◌∷◌}
 use Rattle.spec_text.specs.Tree.{Line}
 use Rattle.spec_faults.specs.Position.{Placed, Home, in_module, in_def, in_method, Where, Use, value, callee, is_read}
 use Rattle.spec_faults.specs.Bindings.{Binding}

@@ -1,15 +1,9 @@
 -- The report of every tree lists its faults: each fault, nothing else, each once, by place and then by line; at most one for each line.
 -- To sort by place is to rearrange: every test passes as often after as before, for all places lie within the lines sorted.
 -- Before that, the faults ascend by line, so that a kind, a place and a read are those of one fault at most.
-use Prim.Native.Nat.{ℕ, zero, suc, ◌+◌, ◌≤◌, ◌<◌}
-use native.Mathlib.Omega.{arith}
-use native.Mathlib.Nat.{le_refl}
-use mathlib.Core.Path.{◌≡◌, refl, sym, ap, ap₂, ◌∙◌}
-use mathlib.Core.Bool.{Bool, true, false, cond, not, ◌&&◌, ◌||◌, or-true}
-use mathlib.Core.List.{List, [], ◌∷◌, ◌++◌}
-use lib.Dec.{eqb}
-use lib.ListN.{length}
-use borrow.Author.Tests.{eqb-true, eqb-false, eq-eqb, ne_eqb, lt-ltb}
+use Rattle.std.proofs.Common.{ℕ, zero, suc, ◌+◌, ◌≤◌, ◌<◌, arith, le_refl, ◌≡◌, refl, sym, ap, ap₂, ◌∙◌, Bool, true, false, cond, not, ◌&&◌, ◌||◌, List, [], ◌∷◌, ◌++◌, eqb, length, eqb-true, eq-eqb, ne_eqb, lt-ltb}
+use Rattle.std.proofs.Math.Bool.{or-true}
+use Rattle.std.proofs.lemmas.Bool.{eqb-false}
 use Rattle.spec_text.specs.Bytes.{any, all}
 use Rattle.spec_text.specs.Tree.{Tree, len_ss, first_line}
 use Rattle.spec_faults.specs.Position.{visited}

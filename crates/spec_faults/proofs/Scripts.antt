@@ -1,13 +1,10 @@
 -- Scripts a to k as one theorem, a table: from the bytes of a tree text to its full report, and to the Rust walk's answer in the order of the reads.
-use Prim.Native.Nat.{ℕ}
+use Rattle.std.proofs.Common.{ℕ, ◌≡◌, refl, sym, ap, ◌∙◌, ◌||◌, List, [], ◌∷◌, map, length}
+use Rattle.std.proofs.Math.Bool.{or_assoc, or_comm}
+use Rattle.std.proofs.Math.Option.{none, some}
 use Prim.Native.String.{String}
-use mathlib.Core.Path.{◌≡◌, refl, sym, ap, ◌∙◌}
-use mathlib.Core.Bool.{◌||◌, or_assoc, or_comm}
-use mathlib.Core.List.{List, [], ◌∷◌, map}
-use mathlib.Core.Option.{none, some}
 use Rattle.spec_text.specs.Bytes.{same, bytes, mem}
 use Rattle.spec_text.specs.Reading.{Reading, tree, refusal, read_tree}
-use lib.ListN.{length}
 use Rattle.spec_faults.specs.Builtins.{Builtin, builtins}
 use Rattle.spec_faults.specs.Faults.{full_report}
 use Rattle.spec_faults.specs.Rust.{Checked, Order, Rearranges, as_read, analyze_with_globals}

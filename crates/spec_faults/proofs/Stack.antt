@@ -1,8 +1,7 @@
 -- The Rust's stack of scopes against one list of names in view: which names are known, and which stack lies below the top scope.
 -- A name that is defined is put in front of the list; the order of a scope's names does not matter, as only membership is asked.
-use mathlib.Core.Path.{◌≡◌, refl, sym, ap, ◌∙◌}
-use mathlib.Core.Bool.{Bool, true, false, cond, ◌||◌, or_assoc, or_comm, or_self}
-use mathlib.Core.List.{List, [], ◌∷◌, ◌++◌}
+use Rattle.std.proofs.Common.{◌≡◌, refl, sym, ap, ◌∙◌, Bool, true, false, cond, ◌||◌, List, [], ◌∷◌, ◌++◌}
+use Rattle.std.proofs.Math.Bool.{or_assoc, or_comm, or_self}
 use Rattle.spec_text.specs.Bytes.{Bytes, Part, mem, same}
 use Rattle.spec_faults.proofs.Lists.{same_eq, mem_append}
 use Rattle.spec_faults.specs.Builtins.{builtin_names}

@@ -1,17 +1,12 @@
 -- What the walk in the text's order carries at a line is what stands earlier there (`At`), and so the faults by position of an expression are
 -- those that the walk gives. Expressions change nothing but the parameters of the lambdas around.
-use Prim.Native.Nat.{ℕ, suc, ◌+◌, ◌≤◌, ◌<◌}
-use native.Mathlib.Omega.{arith}
-use mathlib.Core.Path.{◌≡◌, refl, sym, ap, ap₂, ◌∙◌}
-use mathlib.Core.Bool.{Bool, false, ◌&&◌, ◌||◌, or-false}
-use mathlib.Core.List.{List, [], ◌∷◌, ◌++◌, append_assoc, append-nil, map}
-use lib.Dec.{eqb}
+use Rattle.std.proofs.Common.{ℕ, suc, ◌+◌, ◌≤◌, ◌<◌, arith, ◌≡◌, refl, sym, ap, ap₂, ◌∙◌, Bool, false, ◌&&◌, ◌||◌, List, [], ◌∷◌, ◌++◌, append_assoc, append-nil, map, eqb, le-leb}
+use Rattle.std.proofs.Math.Bool.{or-false}
 use Rattle.spec_text.specs.Bytes.{Bytes, Part, same, mem, any}
 use Rattle.spec_text.specs.Tree.{Line, Expr, Exprs, Attrs, var, node, access, tuple, call, lambda, enil, econs, anil, acons, len_e, len_es}
 use Rattle.spec_faults.specs.Position.{Home, in_module, in_def, in_method, Where, numbers, path, under_lambda, Use, value, callee, Visited, under_class, lines_e, lines_es, lines_as}
 use Rattle.spec_faults.specs.Bindings.{by_param, Binding, bind, params}
 use Rattle.spec_faults.specs.Faults.{earlier, bound, lambda_param, own, assigned, Fault, judge_read, fault_of, judge}
-use borrow.Author.Tests.{le-leb}
 use Rattle.spec_faults.proofs.Lists.{mem_append, any_append, Each}
 use Rattle.spec_faults.proofs.Bound.{binds_e, binds_es, range_params, range_e, range_es}
 use Rattle.spec_faults.proofs.ListingWalk.{State, Env, with_params, in_classes}

@@ -1,18 +1,14 @@
 -- The faults by position of statements and methods are those of the walk in the text's order, and `At` holds after them; into a def or
 -- method it holds with the parameters and, in a def, with its own names. By induction over the statements.
-use Prim.Native.Nat.{ℕ, suc, ◌+◌, ◌≤◌, ◌<◌}
-use native.Mathlib.Omega.{arith}
-use mathlib.Core.Path.{◌≡◌, refl, sym, ap, ap₂, ◌∙◌, subst}
-use mathlib.Core.Bool.{Bool, false, ◌&&◌, ◌||◌, and-false, and-true}
-use mathlib.Core.List.{List, [], ◌∷◌, ◌++◌, map}
-use lib.Dec.{eqb}
+use Rattle.std.proofs.Common.{ℕ, suc, ◌+◌, ◌≤◌, ◌<◌, arith, ◌≡◌, refl, sym, ap, ap₂, ◌∙◌, subst, Bool, false, ◌&&◌, ◌||◌, List, [], ◌∷◌, ◌++◌, map, eqb, ne_eqb}
+use Rattle.std.proofs.Math.Bool.{and-false, and-true}
+use Rattle.std.proofs.lemmas.Bool.{lt-leb}
 use Rattle.spec_text.specs.Bytes.{Bytes, Part, same, mem, any}
 use Rattle.spec_text.specs.Tree.{Line, Stmt, Stmts, Methods, simple, assign, block, choice, for, def, class, snil, scons, mnil, mcons, len_e, len_s, len_ss, len_ms}
 use Rattle.spec_faults.specs.Position.{Home, in_module, in_def, in_method, Where, path, under_block, value, lines_e, lines_t, lines_as, lines_s, lines_ss, lines_ms}
 use Rattle.spec_faults.specs.Bindings.{How, by_def, by_class, by_param, by_for, Binding, bind, params, counts}
 use Rattle.spec_faults.specs.Faults.{earlier, own, judge}
 use Rattle.spec_faults.specs.Rust.{collect_locals}
-use borrow.Author.Tests.{ne_eqb, lt-leb}
 use Rattle.spec_faults.proofs.Lists.{mem_append, any_same, Each, each_append, each_map, any_quiet}
 use Rattle.spec_faults.proofs.Bound.{binds_e, binds_t, in_classes_b, binds_s, binds_ss, binds_ms, In, Range, wide, range_class, range_block, range_params, range_e, range_t, range_s, range_ss, range_ms}
 use Rattle.spec_faults.proofs.ListingWalk.{State, assigning, naming, entered, after_s, after_ss, Env, def_env, method_env, in_classes, self_fault}

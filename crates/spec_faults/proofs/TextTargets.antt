@@ -1,17 +1,12 @@
 -- From one line to a later one by the bindings of the part between: they bind nothing in the blocks around, or one name at the line's block.
 -- So the faults by position of values and targets are those of the walk in the text's order, and `At` holds after them.
-use Prim.Native.Nat.{ℕ, suc, ◌+◌, ◌≤◌, ◌<◌}
-use native.Mathlib.Omega.{arith}
-use mathlib.Core.Path.{◌≡◌, refl, sym, ap, ◌∙◌}
-use mathlib.Core.Bool.{true, false, ◌&&◌, ◌||◌, or_comm, or-false, and-false, and-true}
-use mathlib.Core.List.{List, [], ◌∷◌, ◌++◌}
-use lib.Dec.{eqb}
+use Rattle.std.proofs.Common.{ℕ, suc, ◌+◌, ◌≤◌, ◌<◌, arith, ◌≡◌, refl, sym, ap, ◌∙◌, true, false, ◌&&◌, ◌||◌, List, [], ◌∷◌, ◌++◌, eqb, le-leb}
+use Rattle.std.proofs.Math.Bool.{or_comm, or-false, and-false, and-true}
 use Rattle.spec_text.specs.Bytes.{Bytes, Part, same, mem}
 use Rattle.spec_text.specs.Tree.{Expr, Exprs, var, node, access, tuple, call, lambda, enil, econs, len_e, len_es}
 use Rattle.spec_faults.specs.Position.{Where, numbers, path, value, Visited, lines_e, lines_es, lines_t, lines_ts}
 use Rattle.spec_faults.specs.Bindings.{How, by_target, Binding, bind, counts}
 use Rattle.spec_faults.specs.Faults.{among, bound, assigned, Fault, judge}
-use borrow.Author.Tests.{le-leb}
 use Rattle.spec_faults.proofs.Lists.{eqb_same, Each, each_append, each_map}
 use Rattle.spec_faults.proofs.Bound.{binds_e, binds_es, binds_t, binds_ts, Range, wide, range_e, range_es, range_t, range_ts}
 use Rattle.spec_faults.proofs.ListingWalk.{State, assigning, naming, after_t, after_ts, Env}

@@ -1,7 +1,6 @@
 -- The walk in the text's order, with the lambdas around: it carries the names in view, a def's locals and its assigned names.
 -- It differs from the walk that lists (ListingWalk) in the captures: each stands at its read, and none is left out.
-use Prim.Native.Nat.{ℕ, suc, ◌+◌}
-use mathlib.Core.List.{List, [], ◌∷◌, ◌++◌}
+use Rattle.std.proofs.Common.{ℕ, suc, ◌+◌, List, [], ◌∷◌, ◌++◌}
 use Rattle.spec_text.specs.Bytes.{mem}
 use Rattle.spec_text.specs.Tree.{Line, Expr, Exprs, Stmt, Stmts, Methods, var, node, access, tuple, call, lambda, enil, econs, simple, assign, block, choice, for, def, class, snil, scons, mnil, mcons, len_e, len_s, len_ss}
 use Rattle.spec_faults.specs.Position.{Placed, Use, value, callee}

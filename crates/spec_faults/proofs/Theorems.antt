@@ -1,11 +1,7 @@
 -- The theorems about the definitions, for every tree, in one place. Their proofs stand in the files that the `use` lines name.
-use Prim.Native.Nat.{ℕ, ◌≤◌}
-use mathlib.Core.Path.{◌≡◌, refl, sym, ap, ◌∙◌, subst}
-use mathlib.Core.Logic.{◌↔◌}
-use mathlib.Core.Bool.{true, cond}
-use mathlib.Core.List.{List, [], nil≢cons}
-use mathlib.Core.Option.{none, none-ne-some}
-use lib.ListN.{length}
+use Rattle.std.proofs.Common.{ℕ, ◌≤◌, ◌≡◌, refl, sym, ap, ◌∙◌, subst, ◌↔◌, true, cond, List, [], length}
+use Rattle.std.proofs.Math.Option.{none, none-ne-some}
+use mathlib.Core.List.{nil≢cons}
 use Rattle.spec_text.specs.Bytes.{any, all}
 use Rattle.spec_text.specs.Tree.{Tree, len_ss}
 use Rattle.spec_faults.specs.Faults.{Fault, is, keep, faults, is_fault, ordered, records, full_report}

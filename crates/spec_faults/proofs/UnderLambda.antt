@@ -1,10 +1,8 @@
 -- What else is faulty under a lambda, where the check of its captures passes: the Rust's walk of the body finds what the walk lists inside.
 -- In the module nothing is left; in a def or method, the names that are not in view.
-use Prim.Native.Nat.{ℕ, suc, ◌+◌}
-use mathlib.Core.Path.{◌≡◌, refl, sym, ap, ◌∙◌}
-use mathlib.Core.Bool.{Bool, true, false, cond, not, ◌&&◌, ◌||◌, and-not_self, true≢false}
-use mathlib.Core.List.{List, [], ◌∷◌, ◌++◌}
-use mathlib.Core.Option.{none}
+use Rattle.std.proofs.Common.{ℕ, suc, ◌+◌, ◌≡◌, refl, sym, ap, ◌∙◌, Bool, true, false, cond, not, ◌&&◌, ◌||◌, true≢false, List, [], ◌∷◌, ◌++◌}
+use Rattle.std.proofs.Math.Bool.{and-not_self}
+use Rattle.std.proofs.Math.Option.{none}
 use Rattle.spec_text.specs.Bytes.{Bytes, Part, mem}
 use Rattle.spec_text.specs.Tree.{Line, Expr, Exprs, var, node, access, tuple, call, lambda, enil, econs, len_e}
 use Rattle.spec_faults.specs.Position.{Placed, in_module, Use, value, callee}

@@ -1,9 +1,6 @@
 -- Refusals 2 to 7 as one theorem, a table: FORMAT.md's examples, the limits met and passed, and the particulars that it lists. By computation. (Texts of 65,536 bytes and of 4,098 lines: the crate `spec_answers`, proofs/Limits.antt.)
-use Prim.Native.Nat.{ℕ, zero, suc}
+use Rattle.std.proofs.Common.{ℕ, zero, suc, ◌≡◌, refl, List, [], ◌∷◌, ◌++◌, map, replicate}
 use Prim.Native.String.{String}
-use mathlib.Core.Path.{◌≡◌, refl}
-use mathlib.Core.List.{List, [], ◌∷◌, ◌++◌, map}
-use lib.ListN.{replicate}
 use Rattle.spec_text.specs.Bytes.{Bytes, bytes}
 use Rattle.spec_text.specs.Reading.{Reading, tree, refusal, reading}
 

@@ -1,15 +1,7 @@
 -- What is said of a reader: what it returns is `Fine`. What it read fits, or its refusal is one of 3 to 7, with a line number within the limits.
 -- That passes through `and_then`, and here it is shown of the reader of one line, test by test.
-use Prim.Native.Nat.{ℕ, suc, ◌≤◌}
-use native.Mathlib.Omega.{arith}
-use native.Mathlib.Nat.{le_refl}
-use mathlib.Core.Path.{◌≡◌, refl}
-use mathlib.Core.Bool.{Bool, true, false, cond}
-use mathlib.Core.List.{[], ◌∷◌}
-use mathlib.Core.Option.{Option, none, some}
-use lib.Dec.{leb}
-use lib.ListN.{length, drop}
-use borrow.Author.Tests.{leb-true}
+use Rattle.std.proofs.Common.{ℕ, suc, ◌≤◌, arith, le_refl, ◌≡◌, refl, Bool, true, false, cond, [], ◌∷◌, leb, length, drop, leb-true}
+use Rattle.std.proofs.Math.Option.{Option, none, some}
 use Rattle.spec_text.specs.Bytes.{Bytes}
 use Rattle.spec_text.specs.Lines.{Form, Cut, cut, Parsed, parse}
 use Rattle.spec_text.specs.Reading.{most_lines, most_params, Rest, Read, got, refused, and_then, Due, within_limits, limited, due_here, too_deep, line}

@@ -1,11 +1,7 @@
 -- Each reader returns something `Fine`: what it read takes so many lines, goes no deeper than the levels left, and each of its lines fits.
 -- By induction over the levels left and the counts; what was read is put together by `nothing`, `both` and `under`.
-use Prim.Native.Nat.{ℕ, zero, suc, ◌+◌, ◌*◌, ◌≤◌, max}
-use native.Mathlib.Omega.{arith}
-use mathlib.Core.Path.{◌≡◌}
-use mathlib.Core.List.{[], ◌∷◌}
-use mathlib.Core.Option.{Option}
-use lib.ListN.{length}
+use Rattle.std.proofs.Common.{ℕ, zero, suc, ◌+◌, ◌*◌, ◌≤◌, max, arith, ◌≡◌, [], ◌∷◌, length}
+use Rattle.std.proofs.Math.Option.{Option}
 use Rattle.spec_text.specs.Bytes.{Bytes}
 use Rattle.spec_text.specs.Tree.{snil, Expr, Exprs, Attrs, Stmt, Stmts, Methods, len_e, len_es, len_as, len_s, len_ss, len_ms}
 use Rattle.spec_text.specs.Lines.{StmtForm, ExprForm, Form, count_at, as_stmt, as_expr, as_sort}

@@ -1,16 +1,8 @@
 -- What a line that was read holds: numbers within their limits, and names that are parts of the text.
 -- Each field that `cut` cuts is a part of the text, by induction over the bytes; a word's fields are among them, by the tests of `well_formed`.
-use Prim.Native.Nat.{ℕ, suc, ◌+◌, ◌<◌, ◌≤◌}
-use native.Mathlib.Omega.{arith}
-use mathlib.Core.Path.{◌≡◌, refl, ap}
-use mathlib.Core.Bool.{Bool, true, false, cond, not}
-use mathlib.Core.List.{List, [], ◌∷◌}
-use mathlib.Core.Option.{Option, none, some}
-use lib.Dec.{eqb, leb, ltb}
-use lib.ListN.{length, take, drop, get_or, get_elem?, length-take, length-drop}
-use lib.Seq.{get_or-take, get_or-drop}
-use native.Mathlib.Nat.{add-zero}
-use borrow.Author.Tests.{leb-true, eqb-true}
+use Rattle.std.proofs.Common.{ℕ, suc, ◌+◌, ◌<◌, ◌≤◌, arith, ◌≡◌, refl, ap, Bool, true, false, cond, not, List, [], ◌∷◌, eqb, leb, ltb, length, take, drop, get_or, length-take, length-drop, get_or-take, get_or-drop, add-zero, leb-true, eqb-true}
+use Rattle.std.proofs.Math.Option.{Option, none, some}
+use Rattle.std.proofs.Math.ListN.{get_elem?}
 use Rattle.spec_text.specs.Bytes.{Bytes, Part, no_part, all, is_name, is_number, is_digit, leading_zero, value_of, largest_span, largest_count, same}
 use Rattle.spec_text.specs.Tree.{Line}
 use Rattle.spec_text.specs.Lines.{Word, words, Cut, cut, Parsed, Form, well_formed, parsed, line_of, parse, sort_of, as_sort}

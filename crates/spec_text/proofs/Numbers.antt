@@ -1,6 +1,5 @@
 -- Two sorts with one number are one sort, and two refusals with one number one refusal.
-use Prim.Native.Nat.{ℕ, zero, suc}
-use mathlib.Core.Path.{◌≡◌, refl, sym, ap, ap₂, ◌∙◌}
+use Rattle.std.proofs.Common.{ℕ, zero, suc, ◌≡◌, refl, sym, ap, ap₂, ◌∙◌}
 use Rattle.spec_text.specs.Numbers.{refusal_number}
 use Rattle.spec_text.specs.SortsModel.{sort_number}
 use Rattle.spec_text.specs.declared.refusal.Refusal.{Refusal}

@@ -1,14 +1,7 @@
 -- What a refusal carries: 1 and 2 no line, 3 to 7 the number of a line, from 1 on.
 -- The whole text is read by readers that are `Fine`, so one theorem, `reading_fits`, says it of refusals and what holds of a tree.
-use Prim.Native.Nat.{ℕ, ◌+◌, ◌<◌, ◌≤◌}
-use native.Mathlib.Omega.{arith}
-use mathlib.Core.Path.{◌≡◌, refl, sym, ap, subst}
-use mathlib.Core.Logic.{◌↔◌}
-use mathlib.Core.Bool.{Bool, true, false, cond, ◌&&◌}
-use mathlib.Core.List.{[], ◌∷◌}
-use lib.Dec.{eqb, leb, ltb}
-use lib.ListN.{length}
-use borrow.Author.Tests.{ltb-true, ltb-false, le-leb, lt-leb}
+use Rattle.std.proofs.Common.{ℕ, ◌+◌, ◌<◌, ◌≤◌, arith, ◌≡◌, refl, sym, ap, subst, ◌↔◌, Bool, true, false, cond, ◌&&◌, [], ◌∷◌, eqb, leb, ltb, length, ltb-true, ltb-false, le-leb}
+use Rattle.std.proofs.lemmas.Bool.{lt-leb}
 use Rattle.spec_text.specs.Bytes.{Bytes, between}
 use Rattle.spec_text.specs.Tree.{Tree, len_ss}
 use Rattle.spec_text.specs.Lines.{Form, as_sort, count_at}

@@ -1,5 +1,5 @@
 -- How deep a tree goes, and what is said of each of its lines: by recursion over the tree.
-use Prim.Native.Nat.{ℕ, suc, max}
+use Rattle.std.proofs.Common.{ℕ, suc, max}
 use Rattle.spec_text.specs.Tree.{Line, Expr, Exprs, Attrs, Stmt, Stmts, Methods, var, node, access, tuple, call, lambda, enil, econs, anil, acons, simple, assign, block, choice, for, def, class, snil, scons, mnil, mcons}
 
 -- ---- depth: a line is one deeper than its parent; nothing has depth 0
