@@ -1,89 +1,76 @@
--- The fields that a cursor has still to take, one after the other: the one where it stands, and those of the cursor after the byte that
--- ends it (`parts_more`); none where there is no more (`parts_none`).
-use Rattle.std.proofs.Common.{◌≡◌, refl, sym, ap, subst, ◌∙◌, Bool, true, false, cond, not, ◌||◌, List, [], ◌∷◌, ℕ, zero, suc, ◌+◌, ◌-◌, ◌≤◌, ◌<◌, arith, eqb, leb, leb-true, leb-false, length, drop, drop_of_length-le}
+-- The fields of a line, one after the other: the first, and those after it (`first_at`), at whatever offset the line stands. So the iterator
+-- yields them, and what is left past the first two or three of a row is its parameters.
+use Rattle.std.proofs.Common.{◌≡◌, refl, sym, ap, ◌∙◌, Bool, true, false, cond, Option, None, Some, List, [], ◌∷◌, ℕ, zero, suc, ◌-◌, ◌+◌, ◌≤◌, ◌<◌, arith, eqb, eqb-true, length, drop, drop_of_length-le, ◌⊎◌, ⊎_elim, MatchOption, Bor}
 use Rattle.std.proofs.Math.Seq.{drop-nil}
-use Rattle.spec_text.specs.Bytes.{Bytes, Part, bytes, same}
-use Rattle.spec_faults.specs.Faults.{lacks_self}
-use Rattle.read_fields.specs.FieldsModel.{field_at, end_of, end_byte, next_at}
-use Rattle.read_fields.specs.declared.Cursor.{Cursor}
-use Rattle.read_fields.proofs.Fields.{inside, field_within}
-use Rattle.read_line.proofs.Cut.{to_come, field_of, before, stop, unroll}
+use Rattle.std.specs.Iterator.{YieldsFirstRef, MakesProgress, item_count}
+use Rattle.std.specs.List.{slice_range}
+use Rattle.std.proofs.lemmas.List.{drop-map}
+use Rattle.std.proofs.lemmas.Slice.{between_to_end}
+use Rattle.spec_text.specs.Bytes.{Bytes, Part}
+use Rattle.spec_text.specs.Lines.{cut}
+use Rattle.read_fields.specs.FieldsModel.{field, field_at}
 use Rattle.work_rows.specs.Layout.{kind_at, offset_at}
-use Rattle.read_row.specs.RowModel.{parts_from, params_of}
-use Rattle.read_row.proofs.Runs.{cut_at}
+use Rattle.read_row.specs.RowModel.{before_params, params_of}
+use Rattle.read_row.specs.Left.{bytes_of, fields_of, left_in, fields_left, fields_after}
+use Rattle.read_row.specs.declared.Fields.{Fields}
 
--- ---- the fields of a line, from an offset on
-pub fields_more : (text : Bytes) (at : ℕ) → (cut_at text at).fields ≡ field_of text at ∷ parts_from text (next_at text (end_of text at))
-fields_more text at = rw (unroll text at) (go (eqb (end_byte text at) 9) (eqb (end_byte text at) 10))
+-- ---- a byte more in the first field
+byte_more : (o b : ℕ) (bs : Bytes) (x : Bytes) (xs : List Bytes) (fs : List Part) → eqb b 10 ≡ false → eqb b 9 ≡ false → (cut (suc o) bs).fields ≡ fs
+    → bytes_of fs ≡ x ∷ xs → bytes_of (cut o (b ∷ bs)).fields ≡ (b ∷ x) ∷ xs
+byte_more o b bs x xs [] d e f h = absurd (let z : ◌≡◌ {A = ℕ} 0 1 = cc in omega arith)
+byte_more o b bs x xs (g ∷ fs) d e f h = rw (d, e, cut, f) (cc)
+
+-- at any offset
+first_at : (o : ℕ) (bs : Bytes) → bytes_of (cut o bs).fields ≡ field bs ∷ fields_after (drop (length (field bs)) bs)
+unfolding field
+first_at o [] = refl
+first_at o (b ∷ bs) = go (eqb b 10) (eqb b 9) refl refl (first_at (suc o) bs) (first_at 0 bs)
   where
-    go : (t f : Bool) → (let c : Cursor = record { at = end_of text at + 1; more = t } in
-        (cond (t || f) (before (field_of text at) (to_come text c)) (stop (field_of text at))).fields ≡ field_of text at ∷ parts_from text c)
-    go true f = refl
-    go false true = refl
-    go false false = refl
+    go : (x y : Bool) → eqb b 10 ≡ x → eqb b 9 ≡ y → bytes_of (cut (suc o) bs).fields ≡ field bs ∷ fields_after (drop (length (field bs)) bs)
+        → fields_of bs ≡ field bs ∷ fields_after (drop (length (field bs)) bs)
+        → bytes_of (cut o (b ∷ bs)).fields ≡ field (b ∷ bs) ∷ fields_after (drop (length (field (b ∷ bs))) (b ∷ bs))
+    go true y d e f g = let h : b ≡ 10 = eqb-true b 10 d in rw (h, field) refl
+    go false true d e f g = let h : b ≡ 9 = eqb-true b 9 e in rw (h, field) (ap (λ xs. [] ∷ xs) (f ∙ sym g))
+    go false false d e f g = rw (d, e, field) (byte_more o b bs (field bs) _ (cut (suc o) bs).fields d e refl f)
 
-pub parts_more : (text : Bytes) (c : Cursor) → c.more ≡ true
-    → parts_from text c ≡ record { offset = c.at; bytes = field_at text c.at } ∷ parts_from text (next_at text (c.at + length (field_at text c.at)))
-parts_more text c h = ap (λ (t : Bool). cond t (cut_at text c.at).fields []) h ∙ fields_more text c.at
+-- x is the first field of what was left
+pub field_yielded : (s p : Option (Bor Bytes)) (r : Bor Bytes) (x : Bytes) → s ≡ Some r → x ≡ field_at r.now 0 → left_in p ≡ fields_after (drop (length x) r.now)
+    → left_in s ≡ x ∷ left_in p
+field_yielded s p r x e f h = rw (e, h, f) (first_at 0 r.now)
 
-pub parts_none : (text : Bytes) (c : Cursor) → c.more ≡ false → parts_from text c ≡ []
-parts_none text c h = ap (λ (t : Bool). cond t (cut_at text c.at).fields []) h
+-- so less is left
+pub less_left : (s t : Fields) (x : Bor Bytes) → fields_left s ≡ x.now ∷ fields_left t → MakesProgress (λ _. Unit) (item_count fields_left) s (Some x) t
+less_left s t x e = record { on = λ _. (tt, tt, omega (arith, ap length e)); keeps = tt; rests = λ _. tt }
 
--- ---- the first of them is `self`, or not
-module _ (text : Bytes) (c : Cursor) (ps : List Part) (e : parts_from text c ≡ ps) where
-  pub lacks_other : c.more ≡ true → (t : Bool) → t ≡ same (field_at text c.at) (bytes "self") → not t ≡ lacks_self ps
-  lacks_other h t f = ap not f ∙ ap lacks_self (sym (parts_more text c h) ∙ e)
-
--- ---- the cursor after a field
--- a field ends inside the text
-pub end_inside : (text : Bytes) (at : ℕ) → at ≤ length text → end_of text at ≤ length text
-end_inside text at l = omega (arith, field_within text at)
-
--- after a tab the next field starts inside it
-pub next_inside : (text : Bytes) (end : ℕ) → (next_at text end).more ≡ true → (next_at text end).at ≤ length text
-next_inside text end h = omega (arith, inside (λ (b : ℕ). eqb b 9) refl text end h)
-
-drop_first : {A : Type 0} (n : ℕ) (x : A) (l : List A) → 0 < n → drop n (x ∷ l) ≡ drop (n - 1) l
-drop_first zero x l h = absurd (omega arith)
-drop_first (suc n) x l h = let k : n ≡ suc n - 1 = omega arith in ap (λ (m : ℕ). drop m l) k
-
+-- ---- the fields before the parameters of row i are passed
 -- past the end of the text there is one field, which is empty
-cut_past : (text : Bytes) (at n : ℕ) → length text < at → 0 < n → drop n (cut_at text at).fields ≡ []
-cut_past text at n far some = rw (drop_of_length-le text {i = at} (omega arith)) (drop_first n (record { offset = at; bytes = [] }) [] some ∙ drop-nil (n - 1))
+one_past : (n at : ℕ) (text : Bytes) → 0 < n → length text < at → bytes_of (drop n (cut at (drop at text)).fields) ≡ []
+one_past zero at text l far = absurd (omega arith)
+one_past (suc n) at text l far = rw (drop_of_length-le text {i = at} (omega arith)) (ap bytes_of (drop-nil n))
 
--- ---- the fields before the parameters of row i are passed: n more of them
-pub record Left (text : Bytes) (w : List ℕ) (i : ℕ) (c : Cursor) (n : ℕ) : Type 0 where
-  pub parts : drop n (parts_from text c) ≡ params_of text w i
-  pub within : c.more ≡ true → c.at ≤ length text
+-- the text from an offset on
+pub rest_from : (text : Bytes) (at : ℕ) (r : Option (Bor Bytes)) → MatchOption r ((length text < at) ⊎ (length text < length text))
+    (λ x. (at ≤ length text) × (length text ≤ length text) × (x.now ≡ slice_range text at (length text)) × (length x.now + at ≡ length text))
+    → MatchOption r (length text < at) (λ x. x.now ≡ drop at text)
+rest_from text at None o = ⊎_elim (λ l. l) (λ l. absurd (omega arith)) o
+rest_from text at (Some x) h = h.2 ∙ between_to_end text at (length text) (omega arith)
 
-module _ (text : Bytes) (w : List ℕ) (i : ℕ) where
-  pub left_start : (at k n : ℕ) → at ≡ offset_at w i → k ≡ kind_at w i → n ≡ cond (eqb k 28) 3 2
-      → Left text w i (record { at = at; more = leb at (length text) }) n
-  unfolding params_of
-  left_start at k n e f g = record { parts = rw (← e, ← f, ← g) (go (leb at (length text)) refl); within = leb-true at (length text) }
-    where
-      some : (t : Bool) → 0 < cond t 3 2
-      some true = omega arith
-      some false = omega arith
+pub from_offset : (text : Bytes) (w : List ℕ) (i at n : ℕ) (r : Option (Bor Bytes)) → at ≡ offset_at w i → n ≡ before_params (kind_at w i)
+    → MatchOption r (length text < at) (λ x. x.now ≡ drop at text) → drop n (left_in r) ≡ bytes_of (params_of text w i)
+unfolding params_of
+from_offset text w i at n r e f g = rw (← e, ← f) (go r g)
+  where
+    some : (t : Bool) → 0 < cond t 3 2
+    some true = omega arith
+    some false = omega arith
 
-      go : (t : Bool) → leb at (length text) ≡ t → drop n (parts_from text (record { at = at; more = t })) ≡ drop n (cut_at text at).fields
-      go true h = refl
-      go false h = drop-nil n ∙ sym (cut_past text at n (leb-false at (length text) h) (rw g (some (eqb k 28))))
+    go : (r : Option (Bor Bytes)) → MatchOption r (length text < at) (λ x. x.now ≡ drop at text) → drop n (left_in r) ≡ bytes_of (drop n (cut at (drop at text)).fields)
+    go None far = drop-nil n ∙ sym (one_past n at text (rw f (some (eqb (kind_at w i) 28))) far)
+    go (Some x) here =
+        ap (drop n) (ap fields_of here ∙ first_at 0 (drop at text) ∙ sym (first_at at (drop at text))) ∙ drop-map (λ (p : Part). p.bytes) n (cut at (drop at text)).fields
 
-  module _ (c : Cursor) (n : ℕ) (h : Left text w i c n) where
-    -- a field is passed
-    pub left_more : 0 < n → c.more ≡ true → (x : Bytes) → x ≡ field_at text c.at → (d : Cursor) → d ≡ next_at text (c.at + length x) → Left text w i d (n - 1)
-    left_more l m x e d f =
-        let p : d ≡ next_at text (end_of text c.at) = f ∙ ap (λ (y : Bytes). next_at text (c.at + length y)) e in
-        record {
-          parts =
-              ap (λ (b : Cursor). drop (n - 1) (parts_from text b)) p
-              ∙ (sym (drop_first n (field_of text c.at) _ l) ∙ (ap (drop n) (sym (parts_more text c m)) ∙ h.parts));
-          within = λ t. subst (λ (b : Cursor). b.more ≡ true → b.at ≤ length text) (sym p) (next_inside text (end_of text c.at)) t;
-        }
-
-    -- there is none to pass
-    pub left_none : c.more ≡ false → Left text w i c (n - 1)
-    left_none m =
-        let none : (k : ℕ) → drop k (parts_from text c) ≡ [] = λ k. ap (drop k) (parts_none text c m) ∙ drop-nil k in
-        record { parts = none (n - 1) ∙ (sym (none n) ∙ h.parts); within = h.within }
+-- one of them is passed
+pub field_passed : (n : ℕ) (s t : Fields) (r : Option (Bor Bytes)) → 0 < n → YieldsFirstRef fields_left s r t → drop (n - 1) (fields_left t) ≡ drop n (fields_left s)
+field_passed zero s t r l h = absurd (omega arith)
+field_passed (suc n) s t None l h = let e : suc n - 1 ≡ n = omega arith in rw (h.0, h.1) (drop-nil (suc n - 1))
+field_passed (suc n) s t (Some x) l h = let e : suc n - 1 ≡ n = omega arith in rw (h, e) refl

@@ -46,8 +46,8 @@ pub record Shown (text : Bytes) (w : List ℕ) (i : ℕ) (l : Line) : Type 0 whe
   pub kind : (line_of_row text w i).kind ≡ l.word
   pub start : (line_of_row text w i).start ≡ l.start
   pub end : (line_of_row text w i).end ≡ l.end
-  pub name : (line_of_row text w i).name ≡ l.name.offset
-  pub len : (line_of_row text w i).len ≡ length l.name.bytes
+  pub name : (line_of_row text w i).name.offset ≡ l.name.offset
+  pub len : (line_of_row text w i).name.len ≡ length l.name.bytes
 
 -- ---- a row
 module _ {text : Bytes} {rows : List Row} {w : List ℕ} (h : Holds text rows w) (i : ℕ) (l : i < length rows) where
@@ -78,8 +78,8 @@ module _ {text : Bytes} {rows : List Row} {w : List ℕ} (h : Holds text rows w)
           kind = of (λ x. x.kind) ∙ ap (λ (y : Line). y.word) a.line;
           start = of (λ x. x.start) ∙ ap (λ (y : Line). y.start) a.line;
           end = of (λ x. x.end) ∙ ap (λ (y : Line). y.end) a.line;
-          name = of (λ x. x.name) ∙ ap (λ (y : Line). y.name.offset) a.line;
-          len = of (λ x. x.len) ∙ ap (λ (y : Line). length y.name.bytes) a.line;
+          name = of (λ x. x.name.offset) ∙ ap (λ (y : Line). y.name.offset) a.line;
+          len = of (λ x. x.name.len) ∙ ap (λ (y : Line). length y.name.bytes) a.line;
         }
 
   pub number_kept : HasBytes (get_or rows i no_row).line.name → number_at w i ≡ earliest (map name_in rows) (get_or rows i no_row).line.name.bytes

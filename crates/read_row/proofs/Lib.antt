@@ -9,4 +9,4 @@ pub mod Gives
 pub mod TreeRows
 pub mod Tails
 pub mod Kept
-pub mod Loops
+pub mod Starts

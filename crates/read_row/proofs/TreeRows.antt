@@ -19,10 +19,10 @@ use Rattle.read_row.proofs.Runs.{cut_at, Runs, over, on, runs_then}
 use Rattle.read_row.proofs.Gives.{Gives, gives, refuses, gives_then, too_deep_lem, Here, One, one_stands, line_gives, line_then}
 
 -- rows were read, and what holds of them
-pub record Took (text : Bytes) (r : Rest) (rows : List Row) (Holds : Type 0) (left : Rest) : Type 0 where
-  pub here : Here text left
-  pub runs : Runs text r.offset rows left.offset
-  pub holds : Holds
+record Took (text : Bytes) (r : Rest) (rows : List Row) (Holds : Type 0) (left : Rest) : Type 0 where
+  here : Here text left
+  runs : Runs text r.offset rows left.offset
+  holds : Holds
 
 -- so many of the rows are there
 few : {a : List Row} {n : ℕ} → Sized a n → n ≤ length a

@@ -1,3 +1,4 @@
 -- Lines read again: the line of a row, and its parameters.
 pub mod RowModel
+pub mod Left
 pub mod Worded
