@@ -26,11 +26,11 @@ ROOT = Path(__file__).resolve().parent.parent
 # rows of the heads that are on the stack lie one below the other, and a tree has no more than LEVELS such rows, since
 # read_tree refuses a deeper one. That every way round goes through a head is checked.
 WALK = 'walk_tree'
-HEADS = ('walk_stmt', 'walk_expr')
+HEADS = ('stmt', 'expr')
 LEVELS = int(re.findall(r'^deepest = (\d+)$', (ROOT / 'crates/spec_text/specs/Reading.antt').read_text(), re.M)[0])
 
 # A list of one row, which the caller has found to be a statement's: the list calls the function for that row, and no other.
-ONE_ROW = {('walk_line', 'walk_stmts'): 'walk_stmt'}
+ONE_ROW = {('line', 'stmts'): 'stmt'}
 
 # What the maker links.
 MEMORY = ('memcpy', 'memmove', 'memset')
@@ -50,7 +50,8 @@ def source_calls() -> dict[str, set[str]]:
     """The functions of the walk's source, and which of them each calls."""
     files = sorted((ROOT / 'crates' / WALK / 'src').glob('**/*.rt'))
     text = re.sub(r'//.*', '', '\n'.join(file.read_text() for file in files))
-    bodies = dict(re.findall(r'^(?:pub )?fn (\w+)\b.*?^\{$(.*?)^\}$', text, re.M | re.S))
+    found = re.findall(r'^( *)(?:pub )?fn (\w+)\b.*?^\1\{$(.*?)^\1\}$', text, re.M | re.S)
+    bodies = {name: body for _, name, body in found}
     if len(bodies) != len(re.findall(r'\bfn ', text)):
         raise Unknown('%s: a function that is not laid out as the others' % WALK)
     if lost := set(HEADS) - set(bodies):

@@ -1,2 +1,3 @@
 -- The proofs about the walk.
 pub mod Ways
+pub mod Left

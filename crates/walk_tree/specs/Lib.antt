@@ -1,2 +1,3 @@
 -- The walk over the rows of a tree.
 pub mod WalkModel
+pub mod StepsModel
