@@ -9,8 +9,10 @@ ghost use Rattle.bench_reader.specs.Numbers.{numbers_of};
 use read_tree::Tree;
 use spec_text::Refused;
 
+// What the reader answers.
+// Kept: numbers and no Result, since C is handed numbers.
 #[repr(C)]
-#[derive(Clone, Copy)]
+#[derive(Clone, Copy, PartialEq, Eq)]
 pub struct ReadNumbers {
     pub refusal: usize,
     pub line: usize,

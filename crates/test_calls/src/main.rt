@@ -111,16 +111,17 @@ fn call(rt: &impl Print, frame: Frame, text: &[u8], buffers: &mut Buffers) -> io
     let work = &mut *buffers.work;
     let out = &mut *buffers.out;
     let bytes = &mut *buffers.bytes;
-    let n = a.min(work.len());
-    let k = b.min(out.len());
-    let m = b.min(bytes.len());
+    let i = a as usize;
+    let n = i.min(work.len());
+    let k = out.len().min(b as usize);
+    let m = bytes.len().min(b as usize);
     match letter {
-        b'c' => check(rt, text, &mut work[..n], (b % 4294967296) as u32),
+        b'c' => check(rt, text, &mut work[..n], b),
         b'p' => report(rt, text, &mut work[..n], &mut out[..k], ONES),
         b'q' => report(rt, text, &mut work[..n], &mut out[..k], 0),
-        b'm' => message(rt, text, work, a, &mut bytes[..m]),
+        b'm' => message(rt, text, work, i, &mut bytes[..m]),
         b'v' => version(rt),
-        _ => name(rt, text, work, a),
+        _ => name(rt, text, work, i),
     }
 }
 

@@ -1,21 +1,21 @@
-// What the replay programs share: the frames of standard input, the text that they make in a buffer, and sums.
+// What the replay programs share: the frames of standard input, the line of a refusal, and sums.
 #![tactic(auto)]
 
-ghost use Rattle.std.specs.Prelude.{◌≡◌, ℕ, [], ◌+◌, ◌-◌, ◌*◌, ◌%◌, ◌<◌, ◌≤◌, ◌++◌, MatchOption, length, take, drop, get_or, slice_set};
+ghost use Rattle.std.specs.Prelude.{◌≡◌, ℕ, [], ◌+◌, ◌*◌, ◌%◌, ◌<◌, ◌≤◌, MatchOption, length, take, drop, get_or};
 ghost use Rattle.std.specs.List.{fold};
 ghost use Rattle.std.specs.Int.{from_le_bytes, w32};
-ghost use Rattle.test_frames.specs.Texts.{Held};
 
-use std::io;
+use spec_text::Refused;
 use std::io::Read;
-use std::marker::Model;
+use std::{fmt, io};
+use write_bytes::Output;
 
 // A frame: a letter and two numbers.
-#[derive(Clone, Copy)]
+#[derive(Clone, Copy, PartialEq, Eq)]
 pub struct Frame {
     pub letter: u8,
-    pub a: usize,
-    pub b: usize,
+    pub a: u32,
+    pub b: u32,
 }
 
 // The first n bytes, or as many as there are, and the bytes after them.
@@ -28,15 +28,15 @@ pub fn part(bytes: &[u8], n: usize) -> (&[u8], &[u8])
 }
 
 // The number in the first four bytes, the low byte first, and the bytes after it. A byte that is missing is 0.
-pub fn number(bytes: &[u8]) -> (usize, &[u8])
+// Kept: no Option, since input that is cut off is no case of its own: its numbers are cut off as its texts are.
+pub fn number(bytes: &[u8]) -> (u32, &[u8])
     ensures value { 4 ≤ length bytes.now → result.0 ≡ from_le_bytes w32 (take 4 bytes.now) }
-    ensures in_32_bits { result.0 < 4294967296 }
     ensures after { result.1.now ≡ drop 4 bytes.now }
 {
     let (here, rest) = part(bytes, 4);
     let mut four = [0u8; 4];
     four[..here.len()].copy_from_slice(here);
-    (u32::from_le_bytes(four) as usize, rest)
+    (u32::from_le_bytes(four), rest)
 }
 
 // The first frame, and the bytes after it.
@@ -50,58 +50,15 @@ fn first_frame(bytes: &[u8]) -> Option<(Frame, &[u8])>
     Some((Frame { letter, a, b }, rest))
 }
 
-// A text at the start of a buffer.
-#[derive(Drop)]
-pub struct Text<'a> {
-    bytes: &'a mut [u8],
-    len: usize,
-}
+// The line of a text that is refused.
+#[derive(Clone, Copy, PartialEq, Eq)]
+pub struct RefusedLine(pub Refused);
 
-impl<'a> Model for Text<'a> {
-    ghost Value = { Held };
-
-    ghost view = { λ t. record { bytes = take t.len t.bytes.now; room = length t.bytes.now - t.len } };
-
-    ghost invariant = { λ t. t.len ≤ length t.bytes.now };
-}
-
-impl<'a> Text<'a> {
-    pub fn new(bytes: &'a mut [u8]) -> Text<'a>
-        ensures empty { result.bytes ≡ [] }
-        ensures all_free { result.room ≡ length bytes.old }
-    {
-        Text { bytes, len: 0 }
-    }
-
-    pub fn clear(&mut self)
-        ensures { self.new.bytes ≡ [] }
-    {
-        self.len = 0;
-    }
-
-    // As many of the bytes more as there is room for.
-    pub fn push(&mut self, more: &[u8])
-        ensures { self.new.bytes ≡ self.old.bytes ++ take self.old.room more.now }
-    {
-        let n = more.len().min(self.bytes.len() - self.len);
-        self.bytes[self.len..self.len + n].copy_from_slice(&more[..n]);
-        self.len += n;
-    }
-
-    // Another byte at i, if the text has one there.
-    pub fn set(&mut self, i: usize, byte: u8)
-        ensures set { i < length self.old.bytes → self.new.bytes ≡ slice_set self.old.bytes i byte }
-        ensures past { length self.old.bytes ≤ i → self.new.bytes ≡ self.old.bytes }
-    {
-        if i < self.len {
-            self.bytes[i] = byte;
-        }
-    }
-
-    pub fn as_slice(&self) -> &[u8]
-        ensures { result.now ≡ self.now.bytes }
-    {
-        &self.bytes[..self.len]
+impl fmt::Display for RefusedLine {
+    fn fmt<W: fmt::Write>(&self, f: &mut fmt::Formatter<W>) -> fmt::Result {
+        let Refused { why, line } = self.0;
+        let number = why.number();
+        write!(f, "refused\t{number}\t{line}")
     }
 }
 
@@ -116,25 +73,25 @@ pub fn replay<R: Read, F: FnMut(Frame, &[u8]) -> io::Result<()>>(
     let mut all = [0u8; 262144];
     let n = program_input::read_full(from, &mut all)?;
     let mut buffer = [0u8; 70000];
-    let mut text = Text::new(&mut buffer);
+    let mut text = Output::new(&mut buffer);
     let mut rest = &all[..n];
     while let Some((frame, after)) = first_frame(rest) {
         rest = after;
         match frame.letter {
             b't' => {
-                let (bytes, next) = part(after, frame.b);
+                let (bytes, next) = part(after, frame.b as usize);
                 text.clear();
                 text.push(bytes);
                 rest = next;
             }
             b'r' => {
-                let (bytes, next) = part(after, frame.b);
+                let (bytes, next) = part(after, frame.b as usize);
                 for _ in 0..frame.a {
                     text.push(bytes);
                 }
                 rest = next;
             }
-            _ => call(frame, text.as_slice())?,
+            _ => call(frame, text.written())?,
         }
     }
     Ok(())

@@ -7,6 +7,7 @@
 
 use report_records::Record;
 use std::io;
+use test_frames::RefusedLine;
 
 // Writes the words of the first fault.
 fn print_message(
@@ -41,9 +42,8 @@ fn check(rt: &impl Print, text: &[u8], work: &mut [u32], bytes: &mut [u8]) -> io
         Ok(None) => println!(rt; "accepted"),
         Ok(Some(fault)) => print_fault(rt, fault, text, work, bytes),
         Err(refused) => {
-            let number = refused.why.number();
-            let line = refused.line;
-            println!(rt; "refused\t{number}\t{line}")
+            let line = RefusedLine(refused);
+            println!(rt; "{line}")
         }
     }
 }
@@ -54,6 +54,7 @@ fn run(rt: &impl Print, all: &[u8]) -> io::Result<()> {
     let mut rest = all;
     while !rest.is_empty() {
         let (len, after) = test_frames::number(rest);
+        let len = len as usize;
         let text = after.get(..len).unwrap_or(&[]);
         check(rt, text, &mut work, &mut bytes)?;
         rest = test_frames::part(after, len).1;

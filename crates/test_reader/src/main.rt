@@ -12,15 +12,16 @@ ghost use Rattle.std.specs.Prelude.{◌<◌};
 
 use read_tree::Tree;
 use std::{fmt, io};
-use test_frames::{Frame, Text};
+use test_frames::{Frame, RefusedLine};
+use write_bytes::Output;
 
 // What a row says: its kind, the lines below it, its offset, and the number of its name.
 #[derive(Drop)]
 struct Row {
-    kind: usize,
-    lines_below: usize,
-    offset: usize,
-    number: usize,
+    kind: u32,
+    lines_below: u32,
+    offset: u32,
+    number: u32,
 }
 
 impl fmt::Display for Row {
@@ -40,14 +41,14 @@ impl Row {
         requires { i < 4096 }
     {
         Row {
-            kind: work_rows::kind(work, i),
-            lines_below: work_rows::lines_below(work, i),
-            offset: work_rows::offset(work, i),
-            number: work_rows::number(work, i),
+            kind: work_rows::kind(work, i) as u32,
+            lines_below: work_rows::lines_below(work, i) as u32,
+            offset: work_rows::offset(work, i) as u32,
+            number: work_rows::number(work, i) as u32,
         }
     }
 
-    fn numbers(&self) -> [usize; 4] {
+    fn numbers(&self) -> [u32; 4] {
         [self.kind, self.lines_below, self.offset, self.number]
     }
 }
@@ -57,7 +58,7 @@ fn sum_of(work: &[u32], lines: usize) -> u32 {
     let mut sum = 0;
     for i in 0..lines.min(4096) {
         for n in Row::at(work, i).numbers() {
-            sum = test_frames::summed(sum, (n % 4294967296) as u32);
+            sum = test_frames::summed(sum, n);
         }
     }
     sum
@@ -73,9 +74,8 @@ fn read(rt: &impl Print, text: &[u8], work: &mut [u32]) -> io::Result<usize> {
             Ok(lines)
         }
         Err(refused) => {
-            let number = refused.why.number();
-            let line = refused.line;
-            println!(rt; "refused\t{number}\t{line}")?;
+            let line = RefusedLine(refused);
+            println!(rt; "{line}")?;
             Ok(0)
         }
     }
@@ -94,31 +94,32 @@ fn whole(rt: &impl Print, text: &[u8], work: &mut [u32]) -> io::Result<()> {
 // The first a bytes of the text, and its bytes from b on.
 fn joined(rt: &impl Print, text: &[u8], a: usize, b: usize, work: &mut [u32]) -> io::Result<()> {
     let mut bytes = [0u8; 70000];
-    let mut other = Text::new(&mut bytes);
+    let mut other = Output::new(&mut bytes);
     other.push(test_frames::part(text, a).0);
     other.push(test_frames::part(text, b).1);
-    read(rt, other.as_slice(), work)?;
+    read(rt, other.written(), work)?;
     Ok(())
 }
 
 // The text with another byte at i.
-fn changed(rt: &impl Print, text: &[u8], i: usize, v: usize, work: &mut [u32]) -> io::Result<()> {
+fn changed(rt: &impl Print, text: &[u8], i: usize, v: u32, work: &mut [u32]) -> io::Result<()> {
     let mut bytes = [0u8; 70000];
-    let mut other = Text::new(&mut bytes);
+    let mut other = Output::new(&mut bytes);
     other.push(text);
     other.set(i, (v % 256) as u8);
-    read(rt, other.as_slice(), work)?;
+    read(rt, other.written(), work)?;
     Ok(())
 }
 
 // Runs a call.
 fn call(rt: &impl Print, frame: Frame, text: &[u8], work: &mut [u32]) -> io::Result<()> {
     let Frame { letter, a, b } = frame;
+    let n = a as usize;
     match letter {
-        b'w' if a <= work.len() => whole(rt, text, &mut work[..a]),
+        b'w' if n <= work.len() => whole(rt, text, &mut work[..n]),
         b'w' => Ok(()),
-        b'j' => joined(rt, text, a, b, work),
-        _ => changed(rt, text, a, b, work),
+        b'j' => joined(rt, text, n, b as usize, work),
+        _ => changed(rt, text, n, b, work),
     }
 }
 

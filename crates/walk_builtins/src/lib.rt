@@ -34,7 +34,7 @@ impl<'a> Iterator for TableNames<'a> {
 
     fn next(&mut self) -> Option<&'a [u8]> {
         let (n, lengths) = self.lengths.split_first()?;
-        let (name, bytes) = self.bytes.split_at(*n as usize);
+        let (name, bytes) = self.bytes.split_at(usize::from(*n));
         self.lengths = lengths;
         self.bytes = bytes;
         Some(name)

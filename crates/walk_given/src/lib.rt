@@ -1,7 +1,7 @@
 // What the walk begins with: all marks, slots and stamps are forgotten, and the given names are bound in the module.
 #![tactic(auto)]
 
-ghost use Rattle.std.specs.Prelude.{◌≡◌, ◌≤◌, length};
+ghost use Rattle.std.specs.Prelude.{◌≡◌};
 ghost use Rattle.walk_builtins.specs.Table.{names};
 ghost use Rattle.walk_scopes.specs.ScopesModel.{top_of};
 ghost use Rattle.walk_given.specs.GivenModel.{given, globals_from, begun};
@@ -33,7 +33,6 @@ fn define_globals(work: &mut [u32], s: ScopeStack, globals: usize)
 // Before the first statement of so many rows, of which so many are `global` lines.
 #[tactic(auto, unfolding(crate::specs::GivenModel::begun))]
 pub fn bind_given(text: &[u8], work: &mut [u32], s: ScopeStack, globals: usize, rows: usize)
-    requires { (rows ≤ 4096) × (16384 ≤ length work.old) }
     ensures { work.new ≡ begun text.now (top_of s) globals rows work.old }
 {
     work_marks::forget_marks(work, rows);

@@ -1,6 +1,7 @@
 -- The definitions by their tests: what a row binds by its kind, the next row by its kind, a flag, and the turns of the loops. Each next row
 -- lies after the row, so the loops' laws hold.
-use Rattle.std.proofs.Common.{ℕ, ◌+◌, ◌≤◌, ◌<◌, arith, ◌≡◌, ap, Bool, true, false, cond, ◌&&◌, ◌||◌, List, ◌⊎◌, inl, inr, eqb, leb, eq-eqb, ne_eqb, le-leb, lt-leb}
+use Rattle.std.proofs.Common.{ℕ, ◌+◌, ◌≤◌, ◌<◌, arith, ◌≡◌, ap, Bool, true, false, cond, ◌&&◌, ◌||◌, List, ◌⊎◌, inl, inr, eqb, leb, eq-eqb, ne_eqb, le-leb}
+use Rattle.std.proofs.lemmas.Bool.{lt-leb}
 use Rattle.work_rows.specs.Layout.{kind_at, number_at, after_row}
 use Rattle.work_marks.specs.MarksModel.{stamp_at, put_flag, never}
 use Rattle.work_rows.proofs.Loops.{rows_turn}

@@ -2,6 +2,8 @@
 // whether its name is an own name of the def, and whether it is assigned at that row. Own names are gathered first,
 // each with a stamp, the first row from which it is assigned; then the flags are set, and the stamps are forgotten. A
 // stamp that does not come after the def's row is an old one.
+// Kept: `i ≤ 16384` at each step, and no type for a row: no usize is the row after the last, and a struct with this
+// bound would be made anew for each row that a loop comes to.
 #![tactic(auto)]
 
 ghost use Rattle.std.specs.Prelude.{◌≡◌, ◌<◌, ◌≤◌, ℕ, List};
@@ -17,6 +19,8 @@ use work_marks::{NEVER, Own};
 use work_rows::ROWS_MOST;
 
 // The def at row b has the name of its own, assigned from a row on.
+// Kept: `name < ROWS_MOST`, and no type for a name's row: a name's number comes out of the buffer, and whatever stands
+// there, the test keeps the stamp in its part.
 #[tactic(auto, unfolding(crate::specs::OwnNamesModel::noted))]
 pub fn note_name(work: &mut [u32], b: usize, name: usize, from: usize)
     ensures { work.new ≡ noted b name from work.old }
@@ -69,6 +73,7 @@ fn note_row(work: &mut [u32], b: usize, i: usize)
 }
 
 // Forgets what was noted of row i.
+// Kept: 0 for no stamp, as a stamp is only compared with rows, and none is before row 0.
 #[tactic(auto, unfolding(crate::specs::OwnNamesModel::row_binds))]
 fn forget_row(work: &mut [u32], i: usize)
     requires { i ≤ 16384 }
@@ -145,6 +150,7 @@ fn each_row<N: Fn(&[u32], usize) -> usize, F: Fn(&mut [u32], usize)>(
 }
 
 // Flags the block of the def at row b, whose parameters are noted and whose rows go from `first` up to the row stop.
+// Kept: two rows and no Range, which is not Copy: three loops go over the same rows.
 pub fn flag_block(work: &mut [u32], b: usize, first: usize, stop: usize)
     requires { stop ≤ 16384 }
     ensures { work.new ≡ flagged b first stop work.old }

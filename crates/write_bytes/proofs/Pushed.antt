@@ -2,7 +2,6 @@
 use Rattle.std.proofs.Common.{ℕ, zero, suc, ◌+◌, ◌-◌, ◌≤◌, ◌≡◌, min, List, [], ◌∷◌, ◌++◌, length, take, drop, refl, sym, ap, ◌∙◌, arith, append_assoc, add-zero, length-append}
 use Rattle.std.proofs.Math.Seq.{take-nil, take-append_seam, drop-append-add, drop-drop}
 use Rattle.std.proofs.lemmas.List.{take_min, length-take, length-drop, take-append-drop}
-use borrow.Rule.Slice.PartMut.{put_mid}
 use Rattle.write_bytes.specs.declared.Output.{Output}
 use Rattle.write_bytes.specs.PushModel.{fitting, bytes_pushed, pushed_to, Pushes}
 use Rattle.write_bytes.specs.OutputModel.{Pushed}
@@ -18,7 +17,7 @@ fitting_length : (old : List ℕ) (at : ℕ) (new : List ℕ) → length (fittin
 fitting_length old at new = length-take (length old - at) new
 
 -- ---- a push of nothing
-pub push_none : (old : List ℕ) (at : ℕ) → at ≤ length old → Pushes old at [] old at
+push_none : (old : List ℕ) (at : ℕ) → at ≤ length old → Pushes old at [] old at
 unfolding bytes_pushed pushed_to
 push_none old at h =
     (rw (take-nil {A = ℕ} (length old - at), add-zero at) (sym (take-append-drop at old)), rw (take-nil {A = ℕ} (length old - at)) (sym (add-zero at)), h)
@@ -59,7 +58,7 @@ module _ (old new more : List ℕ) (at : ℕ) (inside : at ≤ length old) where
       ap (drop (at + length fit + n)) filled_is
       ∙ rw (← front_length) (drop-append-add front (drop (length front) old) n ∙ drop-drop n (length front) old)
 
-  pub pushed_more : bytes_pushed (bytes_pushed old at new) (pushed_to old at new) more ≡ bytes_pushed old at (new ++ more)
+  pushed_more : bytes_pushed (bytes_pushed old at new) (pushed_to old at new) more ≡ bytes_pushed old at (new ++ more)
   unfolding bytes_pushed pushed_to
   pushed_more =
       let rest : List ℕ = fitting old (at + length fit) more in
@@ -67,11 +66,11 @@ module _ (old new more : List ℕ) (at : ℕ) (inside : at ≤ length old) where
       rw (filled_length, front_of, past (length rest), fits_both, length-append fit rest, append_assoc fit rest, ← to)
       (append_assoc (take at old) fit (rest ++ drop (at + length fit + length rest) old))
 
-  pub to_more : pushed_to (bytes_pushed old at new) (pushed_to old at new) more ≡ pushed_to old at (new ++ more)
+  to_more : pushed_to (bytes_pushed old at new) (pushed_to old at new) more ≡ pushed_to old at (new ++ more)
   unfolding bytes_pushed pushed_to
   to_more = rw (filled_length, fits_both, length-append fit (fitting old (at + length fit) more)) (omega arith)
 
-pub push_more : (old : List ℕ) (at : ℕ) (new more : List ℕ) {mid out : List ℕ} {to end : ℕ}
+push_more : (old : List ℕ) (at : ℕ) (new more : List ℕ) {mid out : List ℕ} {to end : ℕ}
     → at ≤ length old → Pushes old at new mid to → Pushes mid to more out end → Pushes old at (new ++ more) out end
 push_more old at new more h p q =
     (q.0 ∙ rw (p.0, p.1) (pushed_more old new more at h), q.1 ∙ rw (p.0, p.1) (to_more old new more at h), q.2)
@@ -84,7 +83,7 @@ module _ (old new : List ℕ) (at n : ℕ) (inside : at ≤ length old) (fit : n
   many : n ≡ length (fitting old at new)
   many = fit ∙ sym (fitting_length old at new)
 
-  pub push_copied : (k : ℕ) (ys : List ℕ) → k ≡ n → ys ≡ take n new → Pushes old at new (put_mid at k old ys) (at + n)
+  pub push_copied : (k : ℕ) (ys : List ℕ) → k ≡ n → ys ≡ take n new → Pushes old at new (take at old ++ (ys ++ drop k (drop at old))) (at + n)
   unfolding bytes_pushed pushed_to
   push_copied k ys e q =
       let size : length ys ≡ n = ap length q ∙ omega (arith, length-take n new, fit) in (

@@ -12,9 +12,9 @@ pub struct Output<'a> {
 }
 
 impl<'a> Output<'a> {
-    ghost use Rattle.std.specs.Prelude.{◌≡◌, [], ◌∷◌};
+    ghost use Rattle.std.specs.Prelude.{◌≡◌, ◌<◌, [], ◌∷◌, slice_set};
     ghost use Rattle.spec_text.specs.Writing.{digits, decimal_of};
-    ghost use Rattle.write_bytes.specs.OutputModel.{Pushed};
+    ghost use Rattle.write_bytes.specs.OutputModel.{Pushed, written};
 
     // An output to a buffer, with nothing pushed yet.
     pub fn new(bytes: &'a mut [u8]) -> Output<'a>
@@ -30,6 +30,33 @@ impl<'a> Output<'a> {
         ensures { result ≡ self.now.len }
     {
         self.len
+    }
+
+    // The bytes that are pushed.
+    pub fn written(&self) -> &[u8]
+        ensures { result.now ≡ written self.now }
+    {
+        &self.bytes[..self.len]
+    }
+
+    // Takes all that is pushed off again.
+    pub fn clear(&mut self)
+        ensures same_buffer { self.new.bytes ≡ self.old.bytes }
+        ensures empty { self.new.len ≡ 0 }
+    {
+        self.len = 0;
+    }
+
+    // Another byte at i, if one is pushed there.
+    pub fn set(&mut self, i: usize, byte: u8)
+        ensures same_buffer { self.new.bytes.ghost_name ≡ self.old.bytes.ghost_name }
+        ensures same_len { self.new.len ≡ self.old.len }
+        ensures set { i < self.old.len → written self.new ≡ slice_set (written self.old) i byte }
+        ensures past { self.old.len ≤ i → written self.new ≡ written self.old }
+    {
+        if i < self.len {
+            self.bytes[i] = byte;
+        }
     }
 
     // Pushes bytes, as many as there is room for.
