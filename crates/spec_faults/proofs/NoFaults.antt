@@ -1,7 +1,8 @@
 -- A tree has no fault exactly when the rule holds of it: a line has none exactly when what the rule says of its role holds, and the list by
 -- place is empty only where nothing was judged at fault.
-use Rattle.std.proofs.Common.{ℕ, zero, suc, ◌+◌, ◌≤◌, ◌<◌, arith, ◌≡◌, refl, sym, ap, ap₂, ◌∙◌, subst, ◌↔◌, ◌⊎◌, inl, inr, Bool, true, false, cond, not, true≢false, List, [], ◌∷◌, ◌++◌, eqb}
+use Rattle.std.proofs.Common.{ℕ, zero, suc, ◌+◌, ◌≤◌, ◌<◌, arith, ◌≡◌, refl, sym, ap, ap₂, ◌∙◌, subst, ◌↔◌, ◌⊎◌, inl, inr, ⊎_elim, Bool, true, false, cond, not, true≢false, List, [], ◌∷◌, ◌++◌, eqb}
 use Rattle.std.proofs.lemmas.Bool.{false≢true, eqb-false, not-false}
+use Rattle.std.proofs.Math.Logic.{⊎_map}
 use Rattle.spec_text.specs.Bytes.{bytes, same, Part, In, here, there}
 use Rattle.spec_text.specs.Tree.{Line, Tree, len_ss, first_line}
 use Rattle.spec_text.proofs.Lists.{same_refl}
@@ -28,17 +29,9 @@ read_fine h ls u r false false a false e f g = absurd cc
 fine_read : (h : Home) (ls : List Placed) (u : Use) (r : Placed) (p o a v : Bool) → v ≡ true → (o ≡ true → (a ≡ true) ⊎ (p ≡ true)) → judge_read h ls u r p o a v ≡ []
 fine_read h ls u r true o a v e f = refl
 fine_read h ls u r false true true v e f = refl
-fine_read h ls u r false true false v e f = absurd (neither (f refl))
-  where
-    neither : (false ≡ true) ⊎ (false ≡ true) → ⊥
-    neither (inl e) = false≢true e
-    neither (inr e) = false≢true e
+fine_read h ls u r false true false v e f = absurd (⊎_elim false≢true false≢true (f refl))
 fine_read h ls u r false false a true e f = refl
 fine_read h ls u r false false a false e f = absurd (false≢true e)
-
-either : {A B C D : Type 0} → (A → C) → (B → D) → A ⊎ B → C ⊎ D
-either f g (inl a) = inl (f a)
-either f g (inr b) = inr (g b)
 
 -- ---- a method
 self_from : (ps : List Part) → lacks_self ps ≡ false → SelfFirst ps
@@ -82,7 +75,7 @@ module _ (t : Tree) (v : Visited) (i : In v (visited t)) where
           (own v.at.home v.line.name.bytes v.at.block (bindings t)) _ _ (as_role (is_read u) d)
           (λ e. from_bound t v all (lambda_in_view t v (bound_from t v (numbers v.at.lambdas) e)))
           (λ e. from_bound t v all (assigned_in_view t v (assigned_from t v e))) in
-          (bound_from t v all p.0, λ o. either (assigned_from t v) param_from (p.1 (from_own t v o)))
+          (bound_from t v all p.0, λ o. ⊎_map (assigned_from t v) param_from (p.1 (from_own t v o)))
 
       unlacked : (c : Line) (b : Bool) → unless (not b) (selfless v.number v.line c) ≡ [] → b ≡ false
       unlacked c false e = refl
@@ -98,7 +91,7 @@ module _ (t : Tree) (v : Visited) (i : In v (visited t)) where
       go (is_read u) d =
           let p = f.reads u d in
           fine_read v.at.home v.at.lambdas u (record { number = v.number; line = v.line }) _ _ _ _ (from_bound t v (blocks v.at) p.0)
-          (λ o. either (from_assigned t v) from_param (p.1 (own_from_lem t v o)))
+          (λ o. ⊎_map (from_assigned t v) from_param (p.1 (own_from_lem t v o)))
       go is_target d = refl
       go is_refused d = absurd (f.target d)
       go is_def d = refl

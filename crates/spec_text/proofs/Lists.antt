@@ -5,10 +5,7 @@ use Rattle.std.proofs.Math.Option.{some}
 use Rattle.std.proofs.Math.ListN.{get_elem?}
 use Rattle.std.proofs.Math.Seq.{drop-nil}
 use Rattle.spec_text.specs.Bytes.{Bytes, same, all}
-
-pub and_split : (a b : Bool) → (a && b) ≡ true → (a ≡ true) × (b ≡ true)
-and_split true b e = (refl, e)
-and_split false b e = absurd (false≢true e)
+pub use Rattle.std.proofs.lemmas.Bool.{and_parts as and_split}
 
 pub eqb_sym : (m n : ℕ) → eqb m n ≡ eqb n m
 eqb_sym m n = go (eqb m n) refl
