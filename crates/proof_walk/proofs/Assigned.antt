@@ -71,7 +71,7 @@ unassigned x p = record { low = p; high = inr refl }
 
 -- of a part that begins at row i, not before row k, and ends at row m or before
 mutual
-  pub range_t_lem : (t : Expr) (k i m : ℕ) → k ≤ i → i + len_e t ≤ m → Range k m (notes_t t i)
+  range_t_lem : (t : Expr) (k i m : ℕ) → k ≤ i → i + len_e t ≤ m → Range k m (notes_t t i)
   range_t_lem (var l) k i m p q = also (counts (suc i) l.name (omega arith) (omega arith)) none
   range_t_lem (node l es) k i m p q = none
   range_t_lem (access l es) k i m p q = none
@@ -79,13 +79,13 @@ mutual
   range_t_lem (call l f es) k i m p q = none
   range_t_lem (lambda l e) k i m p q = none
 
-  pub range_ts_lem : (es : Exprs) (k i m : ℕ) → k ≤ i → i + len_es es ≤ m → Range k m (notes_ts es i)
+  range_ts_lem : (es : Exprs) (k i m : ℕ) → k ≤ i → i + len_es es ≤ m → Range k m (notes_ts es i)
   range_ts_lem enil k i m p q = none
   range_ts_lem (econs e es) k i m p q =
       all_append (range_t_lem e k i m p (omega arith)) (range_ts_lem es k (i + len_e e) m (omega arith) (omega arith))
 
 mutual
-  pub range_s_lem : (s : Stmt) (k i m : ℕ) → k ≤ i → i + len_s s ≤ m → m < never → Range k m (notes_s s i)
+  range_s_lem : (s : Stmt) (k i m : ℕ) → k ≤ i → i + len_s s ≤ m → m < never → Range k m (notes_s s i)
   range_s_lem (simple l es) k i m p q n = none
   range_s_lem (assign l e t) k i m p q n = range_t_lem t k (suc i + len_e e) m (omega arith) (omega arith)
   range_s_lem (block l c b) k i m p q n = range_ss_lem b k (suc i + len_e c) m (omega arith) (omega arith) n
@@ -97,7 +97,7 @@ mutual
   range_s_lem (def l b) k i m p q n = also (unassigned l.name (omega arith)) none
   range_s_lem (class l ms ats) k i m p q n = also (unassigned l.name (omega arith)) none
 
-  pub range_ss_lem : (ss : Stmts) (k i m : ℕ) → k ≤ i → i + len_ss ss ≤ m → m < never → Range k m (notes_ss ss i)
+  range_ss_lem : (ss : Stmts) (k i m : ℕ) → k ≤ i → i + len_ss ss ≤ m → m < never → Range k m (notes_ss ss i)
   range_ss_lem snil k i m p q n = none
   range_ss_lem (scons s ss) k i m p q n =
       all_append (range_s_lem s k i m p (omega arith) n) (range_ss_lem ss k (i + len_s s) m (omega arith) (omega arith) n)
@@ -164,7 +164,7 @@ module _ (x : Bytes) where
   after_never y a m l = sym (ap (λ t. mem x a || (t && same x y.bytes || false)) (lt-leb never m l) ∙ or-false (mem x a))
 
   mutual
-    pub after_t_lem : (t : Expr) (i m : ℕ) (st : State) → i + len_e t ≤ m → mem x (after_t t st).assigned ≡ (mem x st.assigned || assigned_by (notes_t t i) x m)
+    after_t_lem : (t : Expr) (i m : ℕ) (st : State) → i + len_e t ≤ m → mem x (after_t t st).assigned ≡ (mem x st.assigned || assigned_by (notes_t t i) x m)
     after_t_lem (var l) i m st p = sym (or-false (mem x (l.name ∷ st.assigned))) ∙ after_name l.name st.assigned [] (suc i) m (omega arith)
     after_t_lem (node l es) i m st p = sym (or-false (mem x st.assigned))
     after_t_lem (access l es) i m st p = sym (or-false (mem x st.assigned))
@@ -172,14 +172,14 @@ module _ (x : Bytes) where
     after_t_lem (call l f es) i m st p = sym (or-false (mem x st.assigned))
     after_t_lem (lambda l e) i m st p = sym (or-false (mem x st.assigned))
 
-    pub after_ts_lem : (es : Exprs) (i m : ℕ) (st : State) → i + len_es es ≤ m → mem x (after_ts es st).assigned ≡ (mem x st.assigned || assigned_by (notes_ts es i) x m)
+    after_ts_lem : (es : Exprs) (i m : ℕ) (st : State) → i + len_es es ≤ m → mem x (after_ts es st).assigned ≡ (mem x st.assigned || assigned_by (notes_ts es i) x m)
     after_ts_lem enil i m st p = sym (or-false (mem x st.assigned))
     after_ts_lem (econs e es) i m st p =
         after_two st.assigned (after_t e st).assigned (after_ts es (after_t e st)).assigned (notes_t e i) (notes_ts es (i + len_e e)) m (after_t_lem e i m st (omega arith))
         (after_ts_lem es (i + len_e e) m (after_t e st) (omega arith))
 
   mutual
-    pub after_s_lem : (s : Stmt) (i m : ℕ) (st : State) → i + len_s s ≤ m → m < never → mem x (after_s s st).assigned ≡ (mem x st.assigned || assigned_by (notes_s s i) x m)
+    after_s_lem : (s : Stmt) (i m : ℕ) (st : State) → i + len_s s ≤ m → m < never → mem x (after_s s st).assigned ≡ (mem x st.assigned || assigned_by (notes_s s i) x m)
     after_s_lem (simple l es) i m st p q = sym (or-false (mem x st.assigned))
     after_s_lem (assign l e t) i m st p q = after_t_lem t (suc i + len_e e) m st (omega arith)
     after_s_lem (block l c b) i m st p q = after_ss_lem b (suc i + len_e c) m st (omega arith) q
@@ -197,7 +197,7 @@ module _ (x : Bytes) where
     after_s_lem (def l b) i m st p q = after_never l.name st.assigned m q
     after_s_lem (class l ms ats) i m st p q = after_never l.name st.assigned m q
 
-    pub after_ss_lem : (ss : Stmts) (i m : ℕ) (st : State) → i + len_ss ss ≤ m → m < never → mem x (after_ss ss st).assigned ≡ (mem x st.assigned || assigned_by (notes_ss ss i) x m)
+    after_ss_lem : (ss : Stmts) (i m : ℕ) (st : State) → i + len_ss ss ≤ m → m < never → mem x (after_ss ss st).assigned ≡ (mem x st.assigned || assigned_by (notes_ss ss i) x m)
     after_ss_lem snil i m st p q = sym (or-false (mem x st.assigned))
     after_ss_lem (scons s ss) i m st p q =
         after_two st.assigned (after_s s st).assigned (after_ss ss (after_s s st)).assigned (notes_s s i) (notes_ss ss (i + len_s s)) m (after_s_lem s i m st (omega arith) q)

@@ -51,7 +51,7 @@ still_blamed place x seen (f ∷ fs) e =
     go true true a b = a
     go true false a b = b
 
-pub blamed_before : (place : ℕ) (x : Bytes) (seen fs : List Fault) → blamed place (seen_after seen fs) x ≡ false → blamed place seen x ≡ false
+blamed_before : (place : ℕ) (x : Bytes) (seen fs : List Fault) → blamed place (seen_after seen fs) x ≡ false → blamed place seen x ≡ false
 blamed_before place x seen fs e = go (blamed place seen x) refl
   where
     go : (b : Bool) → blamed place seen x ≡ b → b ≡ false

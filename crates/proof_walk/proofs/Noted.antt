@@ -218,7 +218,7 @@ module _ (num : Bytes → ℕ) (apart : (x y : Bytes) → num x < 4_096 → num 
     stamp_by-two (m ∷ ms) ns v = stamp_by-two ms ns (cond (same x m.name.bytes) (restamp b m.from v) v)
 
   -- ---- and forgotten
-  pub forgot_all : (ns : List Note) (w : List ℕ) → 16_384 ≤ length w → stamp_at (do_all num forgot ns w) (num x) ≡ cond (note_of ns x) 0 (stamp_at w (num x))
+  forgot_all : (ns : List Note) (w : List ℕ) → 16_384 ≤ length w → stamp_at (do_all num forgot ns w) (num x) ≡ cond (note_of ns x) 0 (stamp_at w (num x))
   forgot_all [] w room = refl
   forgot_all (n ∷ ns) w room =
       forgot_all ns (forgot (num n.name.bytes) n.from w) (omega (arith, (restamped_forgot (num n.name.bytes) n.from w).others.kept.long))

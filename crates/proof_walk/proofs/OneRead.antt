@@ -75,10 +75,10 @@ open_before {r = r} (flat f) l seen x p e = absurd (false≢true (sym (ap₂ ◌
 open_before (under b) l seen x p e = let i = b.inside in omega arith
 
 module_def : in_module ≡ in_def → ⊥
-module_def e = let z : ◌≡◌ {A = ℕ} 0 1 = cc in omega arith
+module_def e = cc
 
 method_def : in_method ≡ in_def → ⊥
-method_def e = let z : ◌≡◌ {A = ℕ} 0 1 = cc in omega arith
+method_def e = cc
 
 module _ {text : Bytes} {rows : List Row} {num : Bytes → ℕ} {own : OwnNames} {s : Scope} {ls : List Placed} {v : Env} {st : State} {seen : List Fault} {w : List ℕ} {r : ℕ} (p : Stands text rows num own s ls v st seen w r) {stop : ℕ} (c : Around rows own s ls v st r stop) (on : r < stop) (x : Bytes) (small : num x < 4_096) where
   test_param : ltb r (lambda_end w (num x)) ≡ (mem x v.params || blamed (place_of ls) seen x)

@@ -77,7 +77,7 @@ pub record Bound (num : Bytes → ℕ) (end : ℕ) (ps : List Part) (w v : List 
   pub block : (x : Bytes) → num x < 4_096 → block_end v (num x) ≡ cond (mem x ps) (max (block_end w (num x)) end) (block_end w (num x))
 
 module _ (num : Bytes → ℕ) (end : ℕ) where
-  abbrev pub raise_all : List Part → List ℕ → List ℕ
+  abbrev raise_all : List Part → List ℕ → List ℕ
   raise_all [] w = w
   raise_all (p ∷ ps) w = raise_all ps (raised_block w (num p.bytes) end)
 
@@ -104,7 +104,7 @@ module _ (num : Bytes → ℕ) (end : ℕ) where
         go true e = subst (λ z. block_end (raised_block w (num z) end) (num x) ≡ max (block_end w (num x)) end) (same_eq x y e) (raised_block_same w (num x) end room l low)
         go false e = raised_block_other w (num y) end (num x) (λ q. same_false x y e (apart x y l q))
 
-    pub bound_all : (ps : List Part) (w : List ℕ) → 16_384 ≤ length w → Bound num end ps w (raise_all ps w)
+    bound_all : (ps : List Part) (w : List ℕ) → 16_384 ≤ length w → Bound num end ps w (raise_all ps w)
     bound_all [] w room = record {
       kept = kept_refl w;
       words = λ h. h;

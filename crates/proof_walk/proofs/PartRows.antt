@@ -35,7 +35,7 @@ module _ {rows : List Row} {i : ℕ} where
   pub here_left : (a b : List Row) → Here rows i (a ++ b) → Here rows i a
   here_left a b h = record { post = b ++ h.post; same = h.same ∙ append_assoc a b h.post }
 
-  pub here_right : (a b : List Row) → Here rows i (a ++ b) → Here rows (i + length a) b
+  here_right : (a b : List Row) → Here rows i (a ++ b) → Here rows (i + length a) b
   here_right a b h = record {
     post = h.post;
     same = sym (drop-drop (length a) i rows) ∙ ap (drop (length a)) (h.same ∙ append_assoc a b h.post) ∙ drop-append_seam a (b ++ h.post);

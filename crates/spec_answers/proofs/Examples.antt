@@ -6,7 +6,7 @@ use Rattle.spec_text.specs.Bytes.{Bytes, bytes}
 use Rattle.spec_answers.specs.Answers.{written, faulty, refused, check, Outcome, refusing, report, message, name, over}
 use Rattle.spec_answers.specs.Printed.{printed}
 
-pub namecheck_example : printed (bytes "tree\t0\t1\nexpr\t0\t7\ncall\t0\t7\t1\nvar\t0\t4\tprnt\nlit\t5\t6\n") ≡ bytes "fault\t9\t0\t7\tUndefined function: prnt\nfaults\t1\n"
+namecheck_example : printed (bytes "tree\t0\t1\nexpr\t0\t7\ncall\t0\t7\t1\nvar\t0\t4\tprnt\nlit\t5\t6\n") ≡ bytes "fault\t9\t0\t7\tUndefined function: prnt\nfaults\t1\n"
 namecheck_example = refl
 
 -- ---- the table from 8 on: a text's first fault as a record, and its message
@@ -58,37 +58,37 @@ y = bytes "tree\t0\t1\nexpr\t0\t1\nvar\t0\t1\ty\n"
 abbrev pass : Bytes
 pass = bytes "tree\t0\t1\npass\t0\t4\n"
 
-pub report_16 : report y 16_384 6 ≡ refusing (refused 16 (1 ∷ []))
+report_16 : report y 16_384 6 ≡ refusing (refused 16 (1 ∷ []))
 report_16 = refl
 
-pub report_7_numbers : report y 16_384 7 ≡ wrote 1 (8 ∷ 0 ∷ 1 ∷ 26 ∷ 1 ∷ 0 ∷ 0 ∷ [])
+report_7_numbers : report y 16_384 7 ≡ wrote 1 (8 ∷ 0 ∷ 1 ∷ 26 ∷ 1 ∷ 0 ∷ 0 ∷ [])
 report_7_numbers = refl
 
 pub message_17 : message pass 16_384 0 0 ≡ refusing (refused 17 [])
 message_17 = refl
 
-pub message_18 : message y 16_384 0 20 ≡ refusing (refused 18 [])
+message_18 : message y 16_384 0 20 ≡ refusing (refused 18 [])
 message_18 = refl
 
-pub message_21_bytes : message y 16_384 0 21 ≡ said "Undefined variable: y"
+message_21_bytes : message y 16_384 0 21 ≡ said "Undefined variable: y"
 message_21_bytes = refl
 
 -- 17 before 18, and a refusal before both
-pub message_order : message y 16_384 1 0 ≡ refusing (refused 17 [])
+message_order : message y 16_384 1 0 ≡ refusing (refused 17 [])
 message_order = refl
 
-pub message_refused : message [] 16_384 0 0 ≡ refusing (refused 3 (1 ∷ []))
+message_refused : message [] 16_384 0 0 ≡ refusing (refused 3 (1 ∷ []))
 message_refused = refl
 
 -- the name of a fault; of none, of kind 14, of a refused text
-pub name_y : name y 16_384 0 ≡ record { offset = 26; bytes = bytes "y" }
+name_y : name y 16_384 0 ≡ record { offset = 26; bytes = bytes "y" }
 name_y = refl
 
-pub name_none : (name y 16_384 1 ≡ record { offset = 0; bytes = [] }) × (name [] 16_384 0 ≡ record { offset = 0; bytes = [] })
+name_none : (name y 16_384 1 ≡ record { offset = 0; bytes = [] }) × (name [] 16_384 0 ≡ record { offset = 0; bytes = [] })
 name_none = (refl, refl)
 
 -- what stands past what is written
-pub over_example : over (1 ∷ 2 ∷ []) (7 ∷ 8 ∷ 9 ∷ []) ≡ 1 ∷ 2 ∷ 9 ∷ []
+over_example : over (1 ∷ 2 ∷ []) (7 ∷ 8 ∷ 9 ∷ []) ≡ 1 ∷ 2 ∷ 9 ∷ []
 over_example = refl
 
 -- ---- a script of 112 lines, examples/oven.tree, and what is printed of it

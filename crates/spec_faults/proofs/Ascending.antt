@@ -15,17 +15,17 @@ pub data Ascend {A : Type 0} (key : A → ℕ) : ℕ → ℕ → List A → Type
   end : {lo hi : ℕ} → lo ≤ hi → Ascend key lo hi []
   next : {lo hi : ℕ} {a : A} {as' : List A} → lo ≤ key a → Ascend key (suc (key a)) hi as' → Ascend key lo hi (a ∷ as')
 
-pub ascend_none : {A : Type 0} {key : A → ℕ} {lo hi : ℕ} → lo ≤ hi → Ascend key lo hi []
+ascend_none : {A : Type 0} {key : A → ℕ} {lo hi : ℕ} → lo ≤ hi → Ascend key lo hi []
 ascend_none h = end h
 
 pub ascend_here : {A : Type 0} {key : A → ℕ} {hi : ℕ} {as' : List A} (a : A) → Ascend key (suc (key a)) hi as' → Ascend key (key a) hi (a ∷ as')
 ascend_here {key} a r = next (le_refl (key a)) r
 
-pub ascend_from : {A : Type 0} {key : A → ℕ} {lo low hi : ℕ} {l : List A} → low ≤ lo → Ascend key lo hi l → Ascend key low hi l
+ascend_from : {A : Type 0} {key : A → ℕ} {lo low hi : ℕ} {l : List A} → low ≤ lo → Ascend key lo hi l → Ascend key low hi l
 ascend_from h (end i) = end (le_trans h i)
 ascend_from h (next i a) = next (le_trans h i) a
 
-pub ascend_append : {A : Type 0} {key : A → ℕ} {lo mid hi : ℕ} {l m : List A} → Ascend key lo mid l → Ascend key mid hi m → Ascend key lo hi (l ++ m)
+ascend_append : {A : Type 0} {key : A → ℕ} {lo mid hi : ℕ} {l m : List A} → Ascend key lo mid l → Ascend key mid hi m → Ascend key lo hi (l ++ m)
 ascend_append (end i) b = ascend_from i b
 ascend_append (next i a) b = next i (ascend_append a b)
 
@@ -63,7 +63,7 @@ abbrev pub Numbered : ℕ → ℕ → List Visited → Type 0
 Numbered lo hi vs = Ascend (λ (v : Visited). v.number) lo hi vs
 
 mutual
-  pub ascend_e : (e : Expr) (n : ℕ) (u : Use) (w : Where) {hi : ℕ} → n + len_e e ≤ hi → Numbered n hi (lines_e e n u w)
+  ascend_e : (e : Expr) (n : ℕ) (u : Use) (w : Where) {hi : ℕ} → n + len_e e ≤ hi → Numbered n hi (lines_e e n u w)
   ascend_e (var l) n u w h = ascend_here _ (ascend_none (omega arith))
   ascend_e (node l es) n u w h = ascend_here _ (ascend_es es (suc n) w (omega arith))
   ascend_e (access l es) n u w h = ascend_here _ (ascend_es es (suc n) w (omega arith))
@@ -71,7 +71,7 @@ mutual
   ascend_e (call l f es) n u w h = ascend_here _ (ascend_append (ascend_e f (suc n) _ w (le_refl _)) (ascend_es es _ w (omega arith)))
   ascend_e (lambda l e) n u w h = ascend_here _ (ascend_e e (suc n) value _ (omega arith))
 
-  pub ascend_es : (es : Exprs) (n : ℕ) (w : Where) {hi : ℕ} → n + len_es es ≤ hi → Numbered n hi (lines_es es n w)
+  ascend_es : (es : Exprs) (n : ℕ) (w : Where) {hi : ℕ} → n + len_es es ≤ hi → Numbered n hi (lines_es es n w)
   ascend_es enil n w h = ascend_none (omega arith)
   ascend_es (econs e es) n w h = ascend_append (ascend_e e n value w (le_refl _)) (ascend_es es _ w (omega arith))
 
@@ -84,7 +84,7 @@ mutual
   ascend_t (call l f es) n w h = ascend_here _ (ascend_none (omega arith))
   ascend_t (lambda l e) n w h = ascend_here _ (ascend_none (omega arith))
 
-  pub ascend_ts : (es : Exprs) (n : ℕ) (w : Where) {hi : ℕ} → n + len_es es ≤ hi → Numbered n hi (lines_ts es n w)
+  ascend_ts : (es : Exprs) (n : ℕ) (w : Where) {hi : ℕ} → n + len_es es ≤ hi → Numbered n hi (lines_ts es n w)
   ascend_ts enil n w h = ascend_none (omega arith)
   ascend_ts (econs e es) n w h = ascend_append (ascend_t e n w (le_refl _)) (ascend_ts es _ w (omega arith))
 
@@ -110,11 +110,11 @@ mutual
   ascend_s (class l ms ats) n w h =
       ascend_here _ (ascend_class w.home (omega arith) (ascend_append (ascend_ms ms _ l w (le_refl _)) (ascend_as ats _ w (omega arith))))
 
-  pub ascend_ss : (ss : Stmts) (n : ℕ) (w : Where) {hi : ℕ} → n + len_ss ss ≤ hi → Numbered n hi (lines_ss ss n w)
+  ascend_ss : (ss : Stmts) (n : ℕ) (w : Where) {hi : ℕ} → n + len_ss ss ≤ hi → Numbered n hi (lines_ss ss n w)
   ascend_ss snil n w h = ascend_none (omega arith)
   ascend_ss (scons s ss) n w h = ascend_append (ascend_s s n w (le_refl _)) (ascend_ss ss _ w (omega arith))
 
-  pub ascend_ms : (ms : Methods) (n : ℕ) (c : Line) (w : Where) {hi : ℕ} → n + len_ms ms ≤ hi → Numbered n hi (lines_ms ms n c w)
+  ascend_ms : (ms : Methods) (n : ℕ) (c : Line) (w : Where) {hi : ℕ} → n + len_ms ms ≤ hi → Numbered n hi (lines_ms ms n c w)
   ascend_ms mnil n c w h = ascend_none (omega arith)
   ascend_ms (mcons l b ms) n c w h = ascend_here _ (ascend_append (ascend_ss b _ _ (le_refl _)) (ascend_ms ms _ c w (omega arith)))
 
@@ -144,7 +144,7 @@ judged_ascend bs is_other n l w = ascend_none (omega arith)
 judged_ascend bs (is_for m) n l w = ascend_none (omega arith)
 judged_ascend bs (is_method c) n l w = unless_ascend (not (lacks_self l.params)) (selfless n l c)
 
-pub judge_ascend : (bs : List Binding) {lo hi : ℕ} {vs : List Visited} → Numbered lo hi vs → Lined lo hi (judge bs vs)
+judge_ascend : (bs : List Binding) {lo hi : ℕ} {vs : List Visited} → Numbered lo hi vs → Lined lo hi (judge bs vs)
 judge_ascend bs (end h) = end h
 judge_ascend bs (next {a} h r) = ascend_append (ascend_from h (judged_ascend bs a.role a.number a.line a.at)) (judge_ascend bs r)
 

@@ -59,7 +59,7 @@ abbrev mutual
   binds_ms (mcons l b ms) n = (params n l ++ binds_ss b (suc n) n in_method) ++ binds_ms ms (suc n + len_ss b)
 
 -- ---- they are the bindings of the part's visited lines
-pub bound_in-append : (a b : List Visited) → bound_in (a ++ b) ≡ bound_in a ++ bound_in b
+bound_in-append : (a b : List Visited) → bound_in (a ++ b) ≡ bound_in a ++ bound_in b
 bound_in-append [] b = refl
 bound_in-append (v ∷ a) b = ap (λ t. bound_at v ++ t) (bound_in-append a b) ∙ sym (append_assoc (bound_at v) (bound_in a) (bound_in b))
 

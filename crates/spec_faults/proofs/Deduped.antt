@@ -49,7 +49,7 @@ dedupe_append seen (f ∷ a) b = go (capture f.kind) (any (same_capture f) seen)
 
 -- ---- at one line
 -- the names of those placed at line n
-abbrev pub names_at : ℕ → List Fault → List Part
+abbrev names_at : ℕ → List Fault → List Part
 names_at n fs = map (λ (f : Fault). f.name) (placed n fs)
 
 -- for a fault placed at line n, the captures before are those placed there
@@ -63,7 +63,7 @@ seen_at n f e (g ∷ seen) = go (eqb n g.place) refl (seen_at n f e seen)
     go false d h = rw (d, ne_eqb g.place f.place (λ q. eqb-false n g.place d (eqb-true n f.place e ∙ sym q))) h
 
 -- what is left at line n is what is left of the faults placed there
-pub placed_dedupe : (n : ℕ) (seen fs : List Fault) → placed n (dedupe seen fs) ≡ once (names_at n seen) (placed n fs)
+placed_dedupe : (n : ℕ) (seen fs : List Fault) → placed n (dedupe seen fs) ≡ once (names_at n seen) (placed n fs)
 placed_dedupe n seen [] = refl
 placed_dedupe n seen (f ∷ fs) = go (eqb n f.place) (capture f.kind) (any (same_capture f) seen) refl refl refl (λ s. placed_dedupe n s fs)
   where

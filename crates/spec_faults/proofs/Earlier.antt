@@ -2,7 +2,7 @@
 -- A part of the tree binds nothing in a block that is neither around it nor in it, and nothing before its first line: there each test fails.
 use Rattle.std.proofs.Common.{ℕ, suc, ◌≤◌, ◌<◌, arith, ◌≡◌, refl, sym, ap, ap₂, ◌∙◌, ◌≢◌, Bool, true, false, ◌&&◌, ◌||◌, List, [], ◌∷◌, ◌++◌, map, eqb, ne_eqb, le-leb}
 use Rattle.std.proofs.Math.Bool.{or_assoc, and-false}
-use Rattle.std.proofs.lemmas.Bool.{lt-leb}
+use Rattle.std.proofs.lemmas.Bool.{false≢true, lt-leb}
 use Rattle.spec_text.specs.Bytes.{Bytes, Part, same, mem, any}
 use Rattle.spec_faults.specs.Position.{Placed, Home, Use}
 use Rattle.spec_faults.specs.Bindings.{by_param, Binding, bind}
@@ -63,7 +63,7 @@ still_blocks n m h r D g i l = each_map (In n n m h) (Still i r) (λ b a j p q. 
 
 pub still_later : (k n m h r i : ℕ) (D : List Binding) → r ≤ n → Range k n m h D → Each (Still i r) D
 still_later k n m h r i D l g =
-    each_map (In k n m h) (Still i r) (λ b a j p q. let lo : n < b.from = a.low in let f : false ≡ true = sym (lt-leb b.from r (omega arith)) ∙ q in λ e. absurd (mathlib.Core.Bool.false≢true f)) D g
+    each_map (In k n m h) (Still i r) (λ b a j p q. let lo : n < b.from = a.low in let f : false ≡ true = sym (lt-leb b.from r (omega arith)) ∙ q in λ e. absurd (false≢true f)) D g
 
 -- a test p that asks for a block before line n
 pub still_none : (n r : ℕ) (p : Binding → Bool) (D : List Binding) → ((b : Binding) → ((j : ℕ) → j < n → j ≢ b.block) → p b ≡ false) → Each (Still n r) D

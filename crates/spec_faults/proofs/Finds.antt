@@ -25,7 +25,7 @@ answers_append : {F : List Fault} {e : SemanticError} (G : List Fault) → Answe
 answers_append G first = first
 answers_append G (captured c i k p s t) = captured c (in_left G i) k p s t
 
-pub first_append : (F G : List Fault) → first_error (F ++ G) ≡ and_then (first_error F) (first_error G)
+first_append : (F G : List Fault) → first_error (F ++ G) ≡ and_then (first_error F) (first_error G)
 first_append [] G = refl
 first_append (f ∷ F) G = refl
 

@@ -3,6 +3,7 @@ use Rattle.std.proofs.Common.{ℕ, ◌+◌, ◌≤◌, arith, ◌≡◌, refl, s
 use Rattle.std.proofs.Math.Bool.{or_assoc, or-true}
 use Rattle.std.proofs.lemmas.Bool.{false≢true}
 use Rattle.spec_text.specs.Bytes.{Bytes, Part, same, mem, any, all, In, here, there}
+pub use Rattle.std.specs.List.{AllByRecursion as Each}
 pub use Rattle.spec_text.proofs.Lists.{and_split, eqb_sym, same_refl, same_eq, All, all_nil as none, all_cons as also}
 use Rattle.spec_faults.specs.Position.{Visited}
 use Rattle.spec_faults.specs.Bindings.{Binding}
@@ -114,10 +115,6 @@ all_two p (a ∷ l) m h i = let e : (p a ≡ true) × (all p l ≡ true) = and_s
 
 -- a property of each element, by the list's shape
 module _ {A : Type 0} where
-  abbrev pub Each : (A → Type 0) → List A → Type 0
-  Each P [] = Unit {0}
-  Each P (a ∷ l) = P a × Each P l
-
   pub each_append : (P : A → Type 0) (a b : List A) → Each P a → Each P b → Each P (a ++ b)
   each_append P [] b p q = q
   each_append P (x ∷ a) b p q = (p.0, each_append P a b p.1 q)

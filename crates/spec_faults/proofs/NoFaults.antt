@@ -1,8 +1,8 @@
 -- A tree has no fault exactly when the rule holds of it: a line has none exactly when what the rule says of its role holds, and the list by
 -- place is empty only where nothing was judged at fault.
-use Rattle.std.proofs.Common.{ℕ, zero, suc, ◌+◌, ◌≤◌, ◌<◌, arith, ◌≡◌, refl, sym, ap, ap₂, ◌∙◌, subst, ◌↔◌, ◌⊎◌, inl, inr, Bool, true, false, cond, not, true≢false, List, [], ◌∷◌, ◌++◌, eqb}
+use Rattle.std.proofs.Common.{ℕ, zero, suc, ◌+◌, ◌≤◌, ◌<◌, arith, ◌≡◌, refl, sym, ap, ap₂, ◌∙◌, subst, ◌↔◌, ◌⊎◌, inl, inr, ⊎_elim, Bool, true, false, cond, not, true≢false, List, [], ◌∷◌, ◌++◌, eqb}
 use Rattle.std.proofs.lemmas.Bool.{false≢true, eqb-false, not-false}
-use mathlib.Core.List.{nil≢cons}
+use Rattle.std.proofs.Math.Logic.{⊎_map}
 use Rattle.spec_text.specs.Bytes.{bytes, same, Part, In, here, there}
 use Rattle.spec_text.specs.Tree.{Line, Tree, len_ss, first_line}
 use Rattle.spec_text.proofs.Lists.{same_refl}
@@ -22,24 +22,16 @@ read_fine : (h : Home) (ls : List Placed) (u : Use) (r : Placed) (p o a v : Bool
     → (p ≡ true → v ≡ true) → (a ≡ true → v ≡ true) → (v ≡ true) × (o ≡ true → (a ≡ true) ⊎ (p ≡ true))
 read_fine h ls u r true o a v e f g = (f refl, λ i. inr refl)
 read_fine h ls u r false true true v e f g = (g refl, λ i. inl refl)
-read_fine h ls u r false true false v e f g = absurd (nil≢cons (sym e))
+read_fine h ls u r false true false v e f g = absurd cc
 read_fine h ls u r false false a true e f g = (refl, λ i. absurd (false≢true i))
-read_fine h ls u r false false a false e f g = absurd (nil≢cons (sym e))
+read_fine h ls u r false false a false e f g = absurd cc
 
 fine_read : (h : Home) (ls : List Placed) (u : Use) (r : Placed) (p o a v : Bool) → v ≡ true → (o ≡ true → (a ≡ true) ⊎ (p ≡ true)) → judge_read h ls u r p o a v ≡ []
 fine_read h ls u r true o a v e f = refl
 fine_read h ls u r false true true v e f = refl
-fine_read h ls u r false true false v e f = absurd (neither (f refl))
-  where
-    neither : (false ≡ true) ⊎ (false ≡ true) → ⊥
-    neither (inl e) = false≢true e
-    neither (inr e) = false≢true e
+fine_read h ls u r false true false v e f = absurd (⊎_elim false≢true false≢true (f refl))
 fine_read h ls u r false false a true e f = refl
 fine_read h ls u r false false a false e f = absurd (false≢true e)
-
-either : {A B C D : Type 0} → (A → C) → (B → D) → A ⊎ B → C ⊎ D
-either f g (inl a) = inl (f a)
-either f g (inr b) = inr (g b)
 
 -- ---- a method
 self_from : (ps : List Part) → lacks_self ps ≡ false → SelfFirst ps
@@ -70,7 +62,7 @@ module _ (t : Tree) (v : Visited) (i : In v (visited t)) where
   from_param p = from_bound t v (numbers v.at.lambdas) ((lambda_param_lem t v i).1 p)
 
   fine_from : fault_of (bindings t) v ≡ [] → Fine t v
-  fine_from e = record { reads = reads; target = λ d. nil≢cons (sym (as_role is_refused d)); method = method }
+  fine_from e = record { reads = reads; target = λ d. let e = as_role is_refused d in cc; method = method }
     where
       as_role : (r : Role) → v.role ≡ r → of_role r ≡ []
       as_role r d = subst (λ (r : Role). of_role r ≡ []) d e
@@ -83,11 +75,11 @@ module _ (t : Tree) (v : Visited) (i : In v (visited t)) where
           (own v.at.home v.line.name.bytes v.at.block (bindings t)) _ _ (as_role (is_read u) d)
           (λ e. from_bound t v all (lambda_in_view t v (bound_from t v (numbers v.at.lambdas) e)))
           (λ e. from_bound t v all (assigned_in_view t v (assigned_from t v e))) in
-          (bound_from t v all p.0, λ o. either (assigned_from t v) param_from (p.1 (from_own t v o)))
+          (bound_from t v all p.0, λ o. ⊎_map (assigned_from t v) param_from (p.1 (from_own t v o)))
 
       unlacked : (c : Line) (b : Bool) → unless (not b) (selfless v.number v.line c) ≡ [] → b ≡ false
       unlacked c false e = refl
-      unlacked c true e = absurd (nil≢cons (sym e))
+      unlacked c true e = absurd cc
 
       method : (c : Line) → v.role ≡ is_method c → SelfFirst v.line.params
       method c d = self_from v.line.params (unlacked c (lacks_self v.line.params) (as_role (is_method c) d))
@@ -99,7 +91,7 @@ module _ (t : Tree) (v : Visited) (i : In v (visited t)) where
       go (is_read u) d =
           let p = f.reads u d in
           fine_read v.at.home v.at.lambdas u (record { number = v.number; line = v.line }) _ _ _ _ (from_bound t v (blocks v.at) p.0)
-          (λ o. either (from_assigned t v) from_param (p.1 (own_from_lem t v o)))
+          (λ o. ⊎_map (from_assigned t v) from_param (p.1 (own_from_lem t v o)))
       go is_target d = refl
       go is_refused d = absurd (f.target d)
       go is_def d = refl
@@ -112,7 +104,7 @@ module _ (t : Tree) (v : Visited) (i : In v (visited t)) where
 -- ---- no fault is listed exactly when no visited line has one
 no_end : {A : Type 0} (a b : List A) → a ++ b ≡ [] → (a ≡ []) × (b ≡ [])
 no_end [] b e = (refl, e)
-no_end (x ∷ a) b e = absurd (nil≢cons (sym e))
+no_end (x ∷ a) b e = absurd cc
 
 each_line : (bs : List Binding) (vs : List Visited) → judge bs vs ≡ [] → (v : Visited) → In v vs → fault_of bs v ≡ []
 each_line bs [] e v i = elim i [ ]
@@ -127,8 +119,8 @@ first_listed : (f : Fault) (fs : List Fault) → once [] (f ∷ fs) ≡ [] → �
 first_listed f fs = go (capture f.kind)
   where
     go : (b : Bool) → cond b (f ∷ once (f.name ∷ []) fs) (f ∷ once [] fs) ≡ [] → ⊥
-    go true e = nil≢cons (sym e)
-    go false e = nil≢cons (sym e)
+    go true e = cc
+    go false e = cc
 
 listed : (n m : ℕ) (f : Fault) (fs : List Fault) → n ≤ f.place → f.place < n + m → by_place_once n m (f ∷ fs) ≡ [] → ⊥
 listed n zero f fs l h e = omega arith

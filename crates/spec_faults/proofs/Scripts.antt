@@ -99,7 +99,7 @@ scripts_hold j = refl
 scripts_hold k = refl
 
 -- ---- further scripts: a rule each that a to k do not touch
-pub data Further : Type 0 where
+data Further : Type 0 where
   for_assigned : Further
   def_does_not_count : Further
   captured_once : Further
@@ -117,7 +117,7 @@ pub data Further : Type 0 where
   if_is_no_block : Further
   inner_hides : Further
 
-abbrev pub further : Further → Script
+abbrev further : Further → Script
 -- in a def, a `for` name is assigned
 further for_assigned =
     script "tree\t1\t1\nglobal\tr\ndef\t0\t30\tf\t1\nfor\t9\t29\ti\t1\nvar\t18\t19\tr\nexpr\t25\t26\nvar\t25\t26\ti\n" [] none
@@ -167,7 +167,7 @@ further if_is_no_block =
 further inner_hides =
     script "tree\t0\t1\ndef\t0\t60\tf\t1\tn\ndef\t10\t50\tg\t2\nexpr\t20\t21\nvar\t20\t21\tn\nassign\t30\t35\nlit\t34\t35\nvar\t30\t31\tn\n" (11 ∷ 20 ∷ 21 ∷ 59 ∷ 1 ∷ 0 ∷ 0 ∷ []) (rust 11 20 21 "Unbound local variable: n")
 
-pub further_hold : (f : Further) → outcome (further f).text ≡ (further f).is
+further_hold : (f : Further) → outcome (further f).text ≡ (further f).is
 further_hold for_assigned = refl
 further_hold def_does_not_count = refl
 further_hold captured_once = refl
@@ -191,7 +191,7 @@ exchanged l [] = []
 exchanged l (x ∷ []) = x ∷ []
 exchanged l (x ∷ y ∷ xs) = y ∷ x ∷ xs
 
-pub exchanged_rearranges : Rearranges exchanged
+exchanged_rearranges : Rearranges exchanged
 exchanged_rearranges l [] z = refl
 exchanged_rearranges l (x ∷ []) z = refl
 exchanged_rearranges l (x ∷ y ∷ xs) z =
@@ -203,12 +203,12 @@ abbrev answer_in : Order → Reading → Checked
 answer_in order (tree t) = analyze_with_globals order t
 answer_in order (refusal m n) = none
 
-pub h_exchanged : answer_in exchanged (read_tree (bytes (scripts h).text)) ≡ rust 10 0 13 "Undefined variable 'q' captured by lambda"
+h_exchanged : answer_in exchanged (read_tree (bytes (scripts h).text)) ≡ rust 10 0 13 "Undefined variable 'q' captured by lambda"
 h_exchanged = refl
 
 -- ---- the table of built-in names: thirteen, each with its length
-pub builtin_lengths : map (λ (b : Builtin). b.len) builtins ≡ map (λ (b : Builtin). length b.name) builtins
+builtin_lengths : map (λ (b : Builtin). b.len) builtins ≡ map (λ (b : Builtin). length b.name) builtins
 builtin_lengths = refl
 
-pub thirteen : length builtins ≡ 13
+thirteen : length builtins ≡ 13
 thirteen = refl

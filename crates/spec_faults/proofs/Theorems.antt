@@ -1,7 +1,6 @@
 -- The theorems about the definitions, for every tree, in one place. Their proofs stand in the files that the `use` lines name.
 use Rattle.std.proofs.Common.{ℕ, ◌≤◌, ◌≡◌, refl, sym, ap, ◌∙◌, subst, ◌↔◌, true, cond, List, [], length}
-use Rattle.std.proofs.Math.Option.{none, none-ne-some}
-use mathlib.Core.List.{nil≢cons}
+use Rattle.std.proofs.Math.Option.{none}
 use Rattle.spec_text.specs.Bytes.{any, all}
 use Rattle.spec_text.specs.Tree.{Tree, len_ss}
 use Rattle.spec_faults.specs.Faults.{Fault, is, keep, faults, is_fault, ordered, records, full_report}
@@ -54,13 +53,13 @@ rust_accepts order h t = (empty (rust_any_order order h t), no_errors (rust_any_
   where
     empty : {c : Checked} {fs : List Fault} → Answers c fs → c ≡ none → records fs ≡ []
     empty no_error e = refl
-    empty first e = absurd (none-ne-some _ (sym e))
-    empty (captured c i k p s f) e = absurd (none-ne-some _ (sym e))
+    empty first e = absurd cc
+    empty (captured c i k p s f) e = absurd cc
 
     no_errors : {c : Checked} {fs : List Fault} → Answers c fs → records fs ≡ [] → c ≡ none
     no_errors no_error e = refl
-    no_errors first e = absurd (nil≢cons (sym e))
-    no_errors (captured c i k p s f) e = absurd (nil≢cons (sym e))
+    no_errors first e = absurd cc
+    no_errors (captured c i k p s f) e = absurd cc
 
 -- ---- The walk that lists everything, with names in view, locals and assigned names, gives the same list.
 pub walk_lists : (t : Tree) → walk t ≡ faults t

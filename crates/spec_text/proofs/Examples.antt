@@ -105,11 +105,11 @@ refusals_hold = refl
 abbrev read? : Bytes → Shown
 read? b = shown (reading b 16_384)
 
-pub leading_zero_5 : read? (bytes "tree\t0\t01\n") ≡ refused 5 1
+leading_zero_5 : read? (bytes "tree\t0\t01\n") ≡ refused 5 1
 leading_zero_5 = refl
 
-pub not_due_6 : read? (bytes "tree\t0\t1\nlit\t0\t1\n") ≡ refused 6 2
+not_due_6 : read? (bytes "tree\t0\t1\nlit\t0\t1\n") ≡ refused 6 2
 not_due_6 = refl
 
-pub seventeen_not_due_6 : read? (bytes "tree\t0\t1\nlambda\t0\t1\ta\ta\ta\ta\ta\ta\ta\ta\ta\ta\ta\ta\ta\ta\ta\ta\ta\n") ≡ refused 6 2
+seventeen_not_due_6 : read? (bytes "tree\t0\t1\nlambda\t0\t1\ta\ta\ta\ta\ta\ta\ta\ta\ta\ta\ta\ta\ta\ta\ta\ta\ta\n") ≡ refused 6 2
 seventeen_not_due_6 = refl

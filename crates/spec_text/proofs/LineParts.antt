@@ -164,4 +164,4 @@ global_name text p f k e = go (eqb 1 (sort_of p.form)) refl
 
     go : (b : Bool) → eqb 1 (sort_of p.form) ≡ b → IsNameOf text p.line.name
     go true d = let n : k.word.named ≡ true = rw (k.form, d) at row in rw n at k.fits.name
-    go false d = let z : ◌≡◌ {A = ℕ} 0 1 = cc (rw d at e) in absurd (omega arith)
+    go false d = absurd (cc (rw d at e))

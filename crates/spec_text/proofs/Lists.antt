@@ -5,10 +5,7 @@ use Rattle.std.proofs.Math.Option.{some}
 use Rattle.std.proofs.Math.ListN.{get_elem?}
 use Rattle.std.proofs.Math.Seq.{drop-nil}
 use Rattle.spec_text.specs.Bytes.{Bytes, same, all}
-
-pub and_split : (a b : Bool) → (a && b) ≡ true → (a ≡ true) × (b ≡ true)
-and_split true b e = (refl, e)
-and_split false b e = absurd (false≢true e)
+pub use Rattle.std.proofs.lemmas.Bool.{and_parts as and_split}
 
 pub eqb_sym : (m n : ℕ) → eqb m n ≡ eqb n m
 eqb_sym m n = go (eqb m n) refl
@@ -65,7 +62,7 @@ test_at p (a ∷ l) zero d e h = (and_split (p a) (all p l) e).0
 test_at p (a ∷ l) (suc i) d e h = test_at p l i d (and_split (p a) (all p l) e).1 (omega arith)
 
 pub test_of : {A : Type 0} (p : A → Bool) (l : List A) (i : ℕ) (a : A) → all p l ≡ true → get_elem? l i ≡ some a → p a ≡ true
-test_of p [] i a e h = let z : ◌≡◌ {A = ℕ} 0 1 = cc in absurd (omega arith)
+test_of p [] i a e h = absurd cc
 test_of p (b ∷ l) zero a e h = let k : b ≡ a = cc in rw k at (and_split (p b) (all p l) e).0
 test_of p (b ∷ l) (suc i) a e h = test_of p l i a (and_split (p b) (all p l) e).1 h
 

@@ -1,5 +1,5 @@
 -- The theorems about reading, for every text and every length of the work buffer, in one place.
-use Rattle.std.proofs.Common.{ℕ, ◌+◌, ◌<◌, ◌≤◌, arith, ◌≡◌, subst, ◌↔◌, true, length}
+use Rattle.std.proofs.Common.{ℕ, ◌+◌, ◌<◌, ◌≤◌, ◌≡◌, subst, ◌↔◌, true, length}
 use Rattle.spec_text.specs.Bytes.{Bytes}
 use Rattle.spec_text.specs.Tree.{Tree, len_ss}
 use Rattle.spec_text.specs.Reading.{longest_text, shortest_work, tree, refusal, reading}
@@ -10,7 +10,7 @@ use Rattle.spec_text.proofs.Refusals.{refusal_ok, TreeFits, ReadingFits, reading
 
 -- ---- A text has one tree or one refusal: reading is a function, and a tree is no refusal.
 pub determined : (text : Bytes) (work k n : ℕ) (t : Tree) → reading text work ≡ tree t → reading text work ≡ refusal k n → ⊥
-determined text work k n t e f = let z : ◌≡◌ {A = ℕ} 0 1 = cc in omega arith
+determined text work k n t e f = cc
 
 -- ---- A refusal has a number from 1 to 7, and a line: 0 for 1 and 2, else from 1 on.
 pub refusal_numbers : (text : Bytes) (work k n : ℕ) → reading text work ≡ refusal k n → refusal_ok k n ≡ true
