@@ -4,4 +4,3 @@ pub mod Dues
 pub mod Lined
 pub mod Sorts
 pub mod Via
-pub mod FirstTest

@@ -1,8 +1,8 @@
 -- One line: where a reader reads a line for what it makes of its form, a turn reads it for its sort. Both are refused alike, or get the same line.
 -- By the tests of `line`, one after the other; what a `global` line holds is found in the table of words.
 use Rattle.std.proofs.Common.{ℕ, suc, ◌+◌, arith, ◌≡◌, refl, ap, subst, Bool, true, false, cond, not, ◌&&◌, List, [], ◌∷◌, ◌++◌, eqb, length, drop, drop_of_length-le, eqb-true}
-use mathlib.Core.Bool.{false≢true}
-use mathlib.Core.Option.{Option, none, some}
+use Rattle.std.proofs.Math.Option.{Option, none, some}
+use Rattle.std.proofs.lemmas.Bool.{false≢true}
 use Rattle.spec_text.specs.Bytes.{Bytes, Part, same}
 use Rattle.spec_text.specs.Tree.{Line}
 use Rattle.spec_text.specs.Lines.{Form, Word, words, Cut, cut, Parsed, well_formed, parsed, line_of, parse, sort_of}
@@ -18,7 +18,7 @@ use Rattle.read_agenda.proofs.Via.{at, Goes, goes_from, goes_out, Refuses, refus
 abbrev global_line : Part → Line
 global_line x = record { word = 1; start = 0; end = 0; name = x; params = [] }
 
-abbrev pub Tabled : Parsed → Type 0
+abbrev Tabled : Parsed → Type 0
 Tabled p = eqb 1 (sort_of p.form) ≡ true → p.line ≡ global_line p.line.name
 
 abbrev Found : Option Parsed → Type 0
@@ -79,7 +79,7 @@ abbrev due_as : {A : Type 0} → A → Parsed → Due A
 due_as a p = record { is = a; parsed = p }
 
 -- `back a`: the form from which a was made
-pub data Alike {A : Type 0} (back : A → Form) : Read (Due A) → Read (Due Form) → Type 0 where
+data Alike {A : Type 0} (back : A → Form) : Read (Due A) → Read (Due Form) → Type 0 where
   alike_got : (a : A) (l : Line) (counts : List ℕ) (r : Rest) → Tabled (parsed_as (back a) l counts)
       → Alike back (got (due_as a (parsed_as (back a) l counts)) r) (got (due_as (back a) (parsed_as (back a) l counts)) r)
   alike_refused : (k n : ℕ) → Alike back (refused k n) (refused k n)

@@ -1,6 +1,6 @@
 -- A reader takes the forms that it makes something of; a turn takes those of a sort. For each reader of a line, these are the same forms.
 use Rattle.std.proofs.Common.{ℕ, zero, suc, ◌<◌, arith, ◌≡◌, refl, ap, subst, ◌∙◌, Bool, true, false, cond, eqb, eqb-true}
-use mathlib.Core.Option.{Option, none, some}
+use Rattle.std.proofs.Math.Option.{Option, none, some}
 use Rattle.spec_text.specs.Lines.{Form, sort_of, as_stmt, as_expr, as_sort}
 use Rattle.read_agenda.specs.AgendaModel.{of_sort}
 

@@ -11,7 +11,7 @@ abbrev pub at : List Entry → Rest → List Row → State
 at agenda r rows = record { agenda = agenda; rest = r; rows = rows }
 
 -- ---- turns after turns
-pub via_then : {s t : State} {p : Phase} → Via s (on t) → Via t p → Via s p
+via_then : {s t : State} {p : Phase} → Via s (on t) → Via t p → Via s p
 via_then here w = w
 via_then (step e v) w = step e (via_then v w)
 

@@ -1,5 +1,5 @@
 -- The entries of the agenda and their numbers in the work buffer.
-use Rattle.std.specs.Prelude.{ℕ, ◌+◌, ◌/◌, ◌%◌, ◌<◌, ◌≡◌}
+use Rattle.std.specs.Prelude.{ℕ, ◌+◌, ◌-◌, ◌/◌, ◌%◌, ◌<◌, List, ◌≡◌, get_or, Option, None, Some}
 use Rattle.spec_text.specs.SortsModel.{sort_number}
 use Rattle.read_agenda.specs.declared.due.Due.{Due}
 use Rattle.read_agenda.specs.declared.Entry.{Entry}
@@ -24,6 +24,11 @@ EntryFits (E.Close i) = i < 4_294_967_296
 abbrev pub IsEntry : ℕ → Entry → Type 0
 IsEntry n (E.Due d) = (sort_number d.sort ≡ n % 8) × (d.levels ≡ n / 8 % 128) × (d.count ≡ n / 1_024)
 IsEntry n (E.Close i) = (n % 8 ≡ 7) × (i ≡ n / 1_024)
+
+-- what is on top of the agenda: none where nothing is due
+abbrev pub OnTop : List ℕ → ℕ → Option Entry → Type 0
+OnTop w top None = top ≡ 0
+OnTop w top (Some e) = (0 < top) × IsEntry (get_or w (agenda_base + top - 1) 0) e
 
 -- what is written: an entry over the ones below it; lines, if any are due
 abbrev pub written : Entry → Stack → Stack

@@ -5,7 +5,7 @@ ghost use Rattle.std.specs.Prelude.{◌≡◌, ◌+◌, ◌-◌, ◌<◌, ◌≤
 ghost use Rattle.spec_text.specs.SortsModel.{sort_number};
 ghost use Rattle.read_words.specs.ChildrenModel.{Few};
 ghost use Rattle.read_agenda.specs.StackModel.{agenda_base, stack, run_word, pushed_below, is_leaf, pushed_due, lessened};
-ghost use Rattle.read_agenda.specs.Entries.{due_word, entry_word, EntryFits, IsEntry, written, pushed_lines};
+ghost use Rattle.read_agenda.specs.Entries.{due_word, entry_word, EntryFits, IsEntry, OnTop, written, pushed_lines};
 
 mod due;
 
@@ -28,6 +28,7 @@ const CLOSE: usize = 7;
 
 // An entry of the agenda: lines that are due, or a row to close, since all below it has been read by then.
 // Kept: buffer and top go by themselves; a struct that lends the buffer has to say in each method which one it lends.
+// Kept: what adds to the agenda asks for a bound on its top: no invariant can say one, since each call may add more.
 #[derive(Clone, Copy, PartialEq, Eq)]
 pub enum Entry {
     Due(Due),
@@ -68,7 +69,7 @@ impl Entry {
     {
         match sort_of(number % SORTS) {
             Some(sort) => Entry::Due(Due {
-                sort: sort,
+                sort,
                 levels: number / SORTS % DEPTHS,
                 count: number / LEVELS,
             }),
@@ -77,13 +78,14 @@ impl Entry {
     }
 }
 
-// The entry on top.
-pub fn on_top(work: &[u32], top: usize) -> Entry
-    requires { (0 < top) × (top < 1048576) }
-    ensures is_entry { IsEntry (get_or work.now (agenda_base + top - 1) 0) result }
+// The entry on top, if anything is due.
+pub fn on_top(work: &[u32], top: usize) -> Option<Entry>
+    ensures is_on_top { OnTop work.now top result }
     ensures is_number { get_or work.now (agenda_base + top - 1) 0 < 4294967296 }
 {
-    Entry::of_number(work_rows::get(work, AGENDA_BASE + top - 1))
+    let under = top.checked_sub(1)?;
+    let number = work_rows::get(work, AGENDA_BASE.saturating_add(under));
+    Some(Entry::of_number(number))
 }
 
 // Writes an entry over the ones below it.
@@ -117,9 +119,9 @@ fn push_below(work: &mut [u32], top: usize, row: usize, children: Children, leve
         requires { (levels < 128) × (count < 4294967296) }
     {
         Due {
-            sort: sort,
-            levels: levels,
-            count: count,
+            sort,
+            levels,
+            count,
         }
     };
     let t = write(work, top, Entry::Close(row));
@@ -170,12 +172,12 @@ pub fn push_due(
 // One of the lines on top is taken.
 #[tactic(auto, unfolding(crate::specs::StackModel::lessened, crate::specs::StackModel::pushed))]
 pub fn one_less(work: &mut [u32], top: usize, due: Due) -> usize
-    requires { (0 < top) × (top < 1048576) }
-    ensures { (stack work.new result ≡ lessened (due_word due) (stack work.old top)) × (result ≤ top) }
+    requires { top < 1048576 }
+    ensures { (stack work.new result ≡ lessened (due_word due) (stack work.old top)) × (result ≤ top - 1 + 1) }
 {
     push(
         work,
-        top - 1,
+        top.saturating_sub(1),
         Due {
             sort: due.sort,
             levels: due.levels,

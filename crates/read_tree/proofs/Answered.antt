@@ -5,13 +5,12 @@ use Rattle.spec_text.specs.Tree.{Tree}
 use Rattle.spec_text.specs.Lines.{Form, as_sort}
 use Rattle.spec_text.specs.Reading.{Rest, Read, got, refused, and_then, line, globals, stmts, stmt, deepest, Reading, tree, refusal, ended}
 use Rattle.read_names.specs.ChainsModel.{cleared}
-use Rattle.read_tree.specs.declared.Progress.{Progress}
 use Rattle.read_line.specs.declared.Line.{Line}
 use Rattle.spec_text.specs.declared.refusal.Refused.{Refused}
 use Rattle.work_rows.specs.Rows.{rows_t}
 use Rattle.read_tree.specs.Laid.{Holds, Answers}
 use Rattle.read_agenda.specs.AgendaModel.{after}
-use Rattle.read_tree.specs.MachineModel.{First, Machine, machine, progress_to, reached, Turns, first_machine, rest_at, answer_at}
+use Rattle.read_tree.specs.MachineModel.{First, Machine, machine, Turns, first_machine, rest_at, answer_at}
 use Rattle.read_agenda.specs.StackModel.{Stack, stack, pushed}
 use Rattle.read_tree.proofs.Machine.{Ends, machine_reads}
 
@@ -44,25 +43,31 @@ after_many g k r =
     gets_then (λ ss. Unit) (λ (t : Tree). Many g t.globals) (stmts (stmt deepest) k r) _ (anything (stmts (stmt deepest) k r)) (λ ss r u. h))
 
 -- ---- the answer where the turns end
+-- the buffer is the one that they leave
+abbrev Leaves : List ℕ → Result Machine Refused → Type 0
+Leaves v (Ok m) = v ≡ m.work
+Leaves v (Err e) = Unit
+
 module _ (text : Bytes) (g : ℕ) (v : List ℕ) where
   -- nothing is due: a tree, if no line is left
   abbrev over : Tree → ℕ → Bytes → Reading
   over t n bs = elim bs [ [] ↦ tree t | b ∷ bs ↦ refusal 4 n ]
 
-  over_answers : (s : Progress) (t : Tree) → Many g t.globals → s.rows ≡ length (rows_t t) → Holds text (rows_t t) v
-      → (bs : Bytes) → drop s.at text ≡ bs → Answers text (over t (s.rows + 2) bs) v (answer_at text g (Ok s))
-  over_answers s t many rows held [] e =
-      let d : length text ≤ s.at = omega (arith, length-drop s.at text, ap length e) in
+  over_answers : (m : Machine) (t : Tree) → Many g t.globals → m.rows ≡ length (rows_t t) → Holds text (rows_t t) v
+      → (bs : Bytes) → drop m.at text ≡ bs → Answers text (over t (m.rows + 2) bs) v (answer_at text g (Ok m))
+  over_answers m t many rows held [] e =
+      let d : length text ≤ m.at = omega (arith, length-drop m.at text, ap length e) in
       record { answer = rw (le-ltb _ _ d, many, rows); kept = held }
-  over_answers s t many rows held (b ∷ bs) e =
-      let d : s.at < length text = omega (arith, length-drop s.at text, ap length e) in
+  over_answers m t many rows held (b ∷ bs) e =
+      let d : m.at < length text = omega (arith, length-drop m.at text, ap length e) in
       record { answer = rw (lt-ltb _ _ d); kept = tt }
 
-  ends_answer : (r : Result Progress Refused) {y : Read Tree} → Gets (λ (t : Tree). Many g t.globals) y → Ends text (reached v r) y → Answers text (ended y) v (answer_at text g r)
-  ends_answer (Ok s) many (Ends.tree x t r here rows held) =
-      subst (λ (q : Rest). Answers text (ended (got t q)) v (answer_at text g (Ok s))) (sym here)
-      (over_answers s t many rows held (drop s.at text) refl)
-  ends_answer (Err e) many (Ends.refusal d) = record { answer = refl; kept = tt }
+  ends_answer : {x : Result Machine Refused} {y : Read Tree} → Gets (λ (t : Tree). Many g t.globals) y → Ends text x y → Leaves v x
+      → Answers text (ended y) v (answer_at text g x)
+  ends_answer many (Ends.tree m t r here rows held) left =
+      subst (λ (q : Rest). Answers text (ended (got t q)) v (answer_at text g (Ok m))) (sym here)
+      (over_answers m t many rows (subst (Holds text (rows_t t)) (sym left) held) (drop m.at text) refl)
+  ends_answer many (Ends.refusal d) left = record { answer = refl; kept = tt }
 
 -- ---- the agenda is laid out from the first line's counts, and turns lead to their end
 pub rest_answers : {text : Bytes} {l : Line} {g k : ℕ} (w : List ℕ) {w₁ w₂ w₃ : List ℕ} {t₂ t₃ : ℕ} → length text ≤ 65_536 → 16_384 ≤ length w → First text l
@@ -71,15 +76,16 @@ pub rest_answers : {text : Bytes} {l : Line} {g k : ℕ} (w : List ℕ) {w₁ w�
     → w₁ ≡ cleared w
     → stack w₂ t₂ ≡ pushed 5 k deepest (stack w₁ 0)
     → stack w₃ t₃ ≡ pushed 1 g deepest (stack w₂ t₂)
-    → (v : List ℕ) (r : Result Progress Refused)
-    → ((x : Result Machine Refused) → Turns text (machine w₃ (progress_to l.next 0 t₃)) x → reached v r ≡ x)
-    → Answers text (ended (after l.count0 l.count1 (rest_at text l.next 2))) v (answer_at text g r)
+    → (v : List ℕ) (x : Result Machine Refused)
+    → ((y : Result Machine Refused) → Turns text (machine w₃ l.next 0 t₃) y → x ≡ y)
+    → Leaves v x
+    → Answers text (ended (after l.count0 l.count1 (rest_at text l.next 2))) v (answer_at text g x)
 unfolding first_machine
-rest_answers {text} {l} {g} {k} w {w₁} {w₂} {w₃} {t₂} {t₃} short room f globals stmts clear e₂ e₃ v r turns =
+rest_answers {text} {l} {g} {k} w {w₁} {w₂} {w₃} {t₂} {t₃} short room f globals stmts clear e₂ e₃ v x turns left =
     let at = l.next in
     let reads = machine_reads text w g k at short room (omega (arith, f.globals)) (omega (arith, f.stmts)) f.start in
     let top : stack w₃ t₃ ≡ pushed 1 g deepest (pushed 5 k deepest (stack (cleared w) 0)) = rw (e₃, e₂, clear) in
-    let m : machine w₃ (progress_to at 0 t₃) ≡ first_machine g k at w = ap (λ (x : Stack). machine x.work (progress_to at 0 x.top)) top in
-    let last : reached v r ≡ reads.last = turns reads.last (subst (λ (n : Machine). Turns text n reads.last) (sym m) reads.turns) in
-    rw (sym globals, sym stmts) (ends_answer text g v r (after_many g k (rest_at text at 2))
-    (subst (λ (x : Result Machine Refused). Ends text x (after g k (rest_at text at 2))) (sym last) reads.ends))
+    let m : machine w₃ at 0 t₃ ≡ first_machine g k at w = ap (λ (x : Stack). machine x.work at 0 x.top) top in
+    let last : x ≡ reads.last = turns reads.last (subst (λ (n : Machine). Turns text n reads.last) (sym m) reads.turns) in
+    rw (sym globals, sym stmts) (ends_answer text g v (after_many g k (rest_at text at 2))
+    (subst (λ (x : Result Machine Refused). Ends text x (after g k (rest_at text at 2))) (sym last) reads.ends) left)

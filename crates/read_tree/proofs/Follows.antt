@@ -11,7 +11,7 @@ use Rattle.work_rows.specs.Rows.{Row, row}
 use Rattle.read_tree.specs.Laid.{start_of}
 use Rattle.read_agenda.specs.AgendaModel.{Entry, run, close, due, due_below, State, Phase, on, stopped, close_at, of_sort, line_due, line_opened, turned, turn}
 use Rattle.read_words.specs.ChildrenModel.{children_in, children_by, Few}
-use Rattle.read_tree.specs.MachineModel.{Machine, machine, progress_to, entry_of, turn_by, turn_of, taken, taken_if, due_at, rest_at, row_closed, row_written}
+use Rattle.read_tree.specs.MachineModel.{Machine, machine, entry_of, turn_by, turn_of, taken, taken_if, due_at, rest_at, row_closed, row_written}
 use Rattle.read_agenda.specs.StackModel.{Stack, stack, run_word, close_word, lessened, is_leaf, pushed_due}
 use Rattle.read_words.specs.declared.Children.{Children}
 use Rattle.read_agenda.proofs.Via.{at as state}
@@ -23,18 +23,18 @@ use Rattle.read_tree.proofs.Written.{length_more, row_held, close_length, closed
 
 -- ---- the machine stands where a state of the agenda stands
 pub record Sim (text : Bytes) (m : Machine) (a : State) : Type 0 where
-  pub rows : m.progress.rows ≡ length a.rows
-  pub rest : a.rest ≡ rest_at text m.progress.at (m.progress.rows + 2)
-  pub start : m.progress.at ≡ start_of text m.progress.rows
-  pub held : Held text a.rows a.agenda (stack m.work m.progress.top)
+  pub rows : m.rows ≡ length a.rows
+  pub rest : a.rest ≡ rest_at text m.at (m.rows + 2)
+  pub start : m.at ≡ start_of text m.rows
+  pub held : Held text a.rows a.agenda (stack m.work m.top)
 
 -- ---- what follows: nothing is due; or the machine's turn leads to the next state, or to the one after that, where a row is closed that
 -- has nothing below it; or it ends, with the refusal
 pub data Follows (text : Bytes) (m : Machine) : Phase → Type 0 where
-  idle : {a : State} → m.progress.top ≡ 0 → Sim text m a → Follows text m (on a)
-  goes : {a : State} {n : Machine} → 0 < m.progress.top → turn_of text m ≡ Ok n → Sim text n a → Follows text m (on a)
-  skips : {a b : State} {n : Machine} → 0 < m.progress.top → (a.agenda ≡ [] → ⊥) → turn a ≡ on b → turn_of text m ≡ Ok n → Sim text n b → Follows text m (on a)
-  ends : {e : Refused} → 0 < m.progress.top → turn_of text m ≡ Err e → Follows text m (stopped (refusal_number e.why) e.line)
+  idle : {a : State} → m.top ≡ 0 → Sim text m a → Follows text m (on a)
+  goes : {a : State} {n : Machine} → 0 < m.top → turn_of text m ≡ Ok n → Sim text n a → Follows text m (on a)
+  skips : {a b : State} {n : Machine} → 0 < m.top → (a.agenda ≡ [] → ⊥) → turn a ≡ on b → turn_of text m ≡ Ok n → Sim text n b → Follows text m (on a)
+  ends : {e : Refused} → 0 < m.top → turn_of text m ≡ Err e → Follows text m (stopped (refusal_number e.why) e.line)
 
 -- ---- a line with nothing due below it
 due_none : (s n d : ℕ) (more : List Entry) → n ≡ 0 → due s n d more ≡ more
@@ -64,7 +64,7 @@ levels_left s (suc d) r e = (omega arith, omega arith)
 
 module _ (text : Bytes) (short : length text ≤ 65_536) (w : List ℕ) (at top : ℕ) (rows : List Row) (start : at ≡ start_of text (length rows)) where
   abbrev now : Machine
-  now = machine w (progress_to at (length rows) top)
+  now = machine w at (length rows) top
 
   abbrev Turns-to : List Entry → Type 0
   Turns-to agenda = Follows text now (turned agenda (rest_at text at (length rows + 2)) rows)
@@ -77,12 +77,12 @@ module _ (text : Bytes) (short : length text ≤ 65_536) (w : List ℕ) (at top 
   turn_none h = idle h.top (record { rows = refl; rest = refl; start = start; held = h })
 
   -- a row is closed
-  close_turns : (i : ℕ) → entry_of now ≡ close_word i → turn_of text now ≡ Ok (machine (row_closed i (length rows) w) (progress_to at (length rows) (top - 1)))
+  close_turns : (i : ℕ) → entry_of now ≡ close_word i → turn_of text now ≡ Ok (machine (row_closed i (length rows) w) at (length rows) (top - 1))
   unfolding turn_of
   close_turns i e =
       ap (λ z. turn_by text z now) e
       ∙ (rw (eq-eqb (close_word i % 8) 7 (omega arith))
-      (ap (λ j. Ok (machine (row_closed j (length rows) w) (progress_to at (length rows) (top - 1)))) (omega arith)))
+      (ap (λ j. Ok (machine (row_closed j (length rows) w) at (length rows) (top - 1))) (omega arith)))
 
   turn_close : (i : ℕ) (under : List Entry) → Held text rows (close i ∷ under) (stack w top) → Turns-to (close i ∷ under)
   turn_close i under h =
@@ -124,7 +124,7 @@ module _ (text : Bytes) (short : length text ≤ 65_536) (w : List ℕ) (at top 
       abbrev after : Stack
       after = pushed_due (length rows) kids (d - 1) (lessened e written)
 
-      read_turns : turn_of text now ≡ Ok (machine after.work (progress_to next (length rows + 1) after.top))
+      read_turns : turn_of text now ≡ Ok (machine after.work next (length rows + 1) after.top)
       read_turns = run_turns ∙ ap (λ z. taken_if text e d z now) r
 
       abbrev more : List Row
@@ -141,7 +141,7 @@ module _ (text : Bytes) (short : length text ≤ 65_536) (w : List ℕ) (at top 
       then k = state (due_below (children_in p) k (close (length rows) ∷ due s n d under)) (rest_at text next (suc (length rows + 2))) more
 
       read_sim : (agenda : List Entry) → Held text more agenda after
-          → Sim text (machine after.work (progress_to next (length rows + 1) after.top)) (state agenda (rest_at text next (suc (length rows + 2))) more)
+          → Sim text (machine after.work next (length rows + 1) after.top) (state agenda (rest_at text next (suc (length rows + 2))) more)
       read_sim agenda held =
           record {
             rows = omega (arith, length_more rows (row p.line 0));
@@ -202,10 +202,10 @@ module _ (text : Bytes) (short : length text ≤ 65_536) (w : List ℕ) (at top 
 -- ---- a turn from any state
 pub turn_follows : (text : Bytes) → length text ≤ 65_536 → (m : Machine) (a : State) → Sim text m a → Follows text m (turn a)
 turn_follows text short m a h =
-    let at = m.progress.at in
-    let top = m.progress.top in
+    let at = m.at in
+    let top = m.top in
     let agenda = a.agenda in
     let rows = a.rows in
     subst (λ r. Follows text m (turned agenda r rows)) (sym h.rest)
-    (subst (λ k. Follows text (machine m.work (progress_to at k top)) (turned agenda (rest_at text at (k + 2)) rows)) (sym h.rows)
+    (subst (λ k. Follows text (machine m.work at k top) (turned agenda (rest_at text at (k + 2)) rows)) (sym h.rows)
     (turn_any text short m.work at top rows (h.start ∙ ap (λ k. start_of text k) h.rows) agenda h.held))

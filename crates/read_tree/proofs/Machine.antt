@@ -20,8 +20,8 @@ use Rattle.read_tree.proofs.Follows.{Sim, Follows, idle, goes, skips, ends, turn
 
 -- ---- where the machine ends: with the rows of the tree in the work buffer, or with the refusal
 pub data Ends (text : Bytes) : Result Machine Refused → Read Tree → Type 0 where
-  tree : (x : Machine) (t : Tree) (r : Rest) → r ≡ rest_at text x.progress.at (x.progress.rows + 2)
-      → x.progress.rows ≡ length (rows_t t) → Holds text (rows_t t) x.work → Ends text (Ok x) (got t r)
+  tree : (x : Machine) (t : Tree) (r : Rest) → r ≡ rest_at text x.at (x.rows + 2)
+      → x.rows ≡ length (rows_t t) → Holds text (rows_t t) x.work → Ends text (Ok x) (got t r)
   refusal : (e : Refused) → Ends text (Err e) (refused (refusal_number e.why) e.line)
 
 pub record Reads (text : Bytes) (m : Machine) (y : Read Tree) : Type 0 where
@@ -46,7 +46,7 @@ never : {a : State} {k n : ℕ} → on a ≡ stopped k n → ⊥
 never e = let z : ◌≡◌ {A = ℕ} 0 1 = cc in omega arith
 
 module _ (text : Bytes) (short : length text ≤ 65_536) where
-  later : {m n : Machine} {p : Phase} → 0 < m.progress.top → turn_of text m ≡ Ok n → Ended text n p → Ended text m p
+  later : {m n : Machine} {p : Phase} → 0 < m.top → turn_of text m ≡ Ok n → Ended text n p → Ended text m p
   later l q (ended_on x t s) = ended_on x (more l q t) s
   later l q (ended_out e t) = ended_out e (more l q t)
 

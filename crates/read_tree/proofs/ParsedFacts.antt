@@ -1,7 +1,7 @@
 -- What is known of a line from its fields: its form is that of its row of the table, its counts are at most 4,096, and its name is one of its fields.
 -- By the table, row by row.
 use Rattle.std.proofs.Common.{ℕ, zero, suc, ◌+◌, ◌<◌, ◌≤◌, arith, ◌≡◌, refl, ap, subst, Bool, true, false, cond, List, [], ◌∷◌, map, eqb, leb, length, take, drop, get_or}
-use mathlib.Core.Option.{Option, none, some}
+use Rattle.std.proofs.Math.Option.{Option, none, some}
 use Rattle.spec_text.specs.Bytes.{Bytes, Part, no_part, all, is_name, is_number, value_of, largest_span, largest_count, same}
 use Rattle.spec_text.specs.Lines.{Word, words, Parsed, well_formed, parsed, line_of, parse, count_at}
 use Rattle.spec_text.proofs.Lists.{and_split, All, all_nil, all_cons, next_of, at_next}

@@ -1,9 +1,9 @@
 -- The code's tests of a line that is due and the definition's tests give the same refusal or the same line, and what is known of a line that was read.
 -- By the tests, one after the other; what is known comes from the fields and from the table of words.
 use Rattle.std.proofs.Common.{ℕ, zero, suc, ◌≤◌, ◌<◌, arith, ◌≡◌, refl, ap, sym, ◌∙◌, subst, Bool, true, false, cond, not, ◌&&◌, ◌||◌, List, [], ◌∷◌, None, Some, Result, Ok, Err, eqb, leb, ltb, length, drop, length-drop, leb-true, leb-false, le-leb, le-ltb, lt-ltb}
-use mathlib.Core.Option.{Option, none, some}
-use lib.Dec.{eqb-suc-zero}
-use borrow.Author.Tests.{lt-leb}
+use Rattle.std.proofs.Math.Dec.{eqb-suc-zero}
+use Rattle.std.proofs.Math.Option.{Option, none, some}
+use Rattle.std.proofs.lemmas.Bool.{lt-leb}
 use Rattle.spec_text.specs.Bytes.{Bytes, part_of}
 use Rattle.spec_text.specs.Lines.{Form, Cut, cut, Parsed, parse, count_at, sort_of}
 use Rattle.spec_text.specs.Reading.{Rest, Read, got, refused, Due, line, formed, too_deep}

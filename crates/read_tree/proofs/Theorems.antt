@@ -1,7 +1,7 @@
 -- What the reader's contract gives whoever walks the rows: they do not depend on what the buffer held before, and two rows have one
 -- number exactly where they have one name.
 use Rattle.std.proofs.Common.{ℕ, ◌<◌, ◌≡◌, sym, ap, ◌∙◌, subst, List, [], map, ◌↔◌, length, get_or, take, Result, Ok, Err, arith}
-use lib.ListN.{length-map}
+use Rattle.std.proofs.lemmas.List.{length-map}
 use Rattle.spec_text.specs.Bytes.{Bytes}
 use Rattle.spec_text.specs.Reading.{Reading}
 use Rattle.work_rows.specs.Layout.{offset_at, number_at}
@@ -24,7 +24,7 @@ abbrev pub Named : List Row → ℕ → Type 0
 Named rows i = get_or (names rows) i [] ≡ [] → ⊥
 
 -- ---- what an answer says in numbers is that answer alone
-pub one_in_numbers : {A : Type 0} (r q : Result A Refused) → in_numbers r ≡ in_numbers q → r ≡ q
+one_in_numbers : {A : Type 0} (r q : Result A Refused) → in_numbers r ≡ in_numbers q → r ≡ q
 one_in_numbers (Ok a) (Ok b) e = cc
 one_in_numbers (Ok a) (Err d) e = let z : ◌≡◌ {A = ℕ} 0 1 = cc in absurd (omega arith)
 one_in_numbers (Err c) (Ok b) e = let z : ◌≡◌ {A = ℕ} 0 1 = cc in absurd (omega arith)

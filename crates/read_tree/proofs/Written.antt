@@ -1,7 +1,7 @@
 -- A row is written after the others, and a row is closed: the work buffer holds the rows so changed, and the agenda as it was.
 use Rattle.std.proofs.Common.{ℕ, zero, suc, ◌+◌, ◌-◌, ◌*◌, ◌%◌, ◌≤◌, ◌<◌, arith, mod-eq_of_lt, ◌≡◌, refl, sym, ap, ◌∙◌, subst, Bool, true, false, List, [], ◌∷◌, ◌++◌, map, inl, inr, length, get_or, set, take, length-append, length-set, length-take, get_or-set_other, get_or-take, take-suc, ext_get_or, ltb, eq-eqb, ne_eqb, ltb-true, ltb-false}
-use lib.ListN.{length-map, get_or-append}
-use lib.Seq.{take-set-lt, get_or-append_seam}
+use Rattle.std.proofs.Math.ListN.{length-map, get_or-append}
+use Rattle.std.proofs.Math.Seq.{take-set-lt, get_or-append_seam}
 use Rattle.spec_text.specs.Bytes.{Bytes, part_of}
 use Rattle.spec_text.specs.Tree.{Line}
 use Rattle.spec_text.specs.Lines.{Parsed}

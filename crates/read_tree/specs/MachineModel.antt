@@ -1,5 +1,5 @@
 -- The reader as it runs: the agenda is a stack in the work buffer. What each function does to the numbers, in the code's own steps.
-use Rattle.std.specs.Prelude.{ℕ, ◌+◌, ◌-◌, ◌*◌, ◌/◌, ◌%◌, ◌≤◌, ◌<◌, cond, not, ◌||◌, List, ◌≡◌, eqb, leb, ltb, length, get_or, drop, Option, None, Some, Result, Ok, Err, IfOk}
+use Rattle.std.specs.Prelude.{ℕ, ◌+◌, ◌-◌, ◌*◌, ◌/◌, ◌%◌, ◌≤◌, ◌<◌, cond, not, ◌||◌, List, ◌≡◌, eqb, leb, ltb, length, get_or, drop, Option, None, Some, Result, Ok, Err}
 use Rattle.spec_text.specs.Bytes.{Bytes}
 use Rattle.spec_text.specs.SortsModel.{sort_number}
 use Rattle.spec_text.specs.Reading.{Rest, most_lines, most_params, deepest}
@@ -13,7 +13,6 @@ use Rattle.read_agenda.specs.StackModel.{agenda_base, Stack, stack, pushed, push
 use Rattle.read_names.specs.ChainsModel.{placed, added, cleared}
 use Rattle.read_words.specs.ChildrenModel.{children_by}
 use Rattle.read_tree.specs.Laid.{skip}
-use Rattle.read_tree.specs.declared.Progress.{Progress}
 use Rattle.read_tree.specs.declared.Tree.{Tree}
 
 -- ---- a line that is due, or its refusal: 3, 5, 6 or 7, in this order; line n, with d levels left
@@ -40,44 +39,39 @@ unfoldable pub row_closed : ℕ → ℕ → List ℕ → List ℕ
 row_closed i rows w = put w i (kind_at w i + 32 * (rows - (i + 1)))
 
 -- ---- a turn
+-- how far the reading is: the numbers, the offset of the next line, the rows written, and the entries of the agenda
 pub record Machine : Type 0 where
   pub work : List ℕ
-  pub progress : Progress
+  pub at : ℕ
+  pub rows : ℕ
+  pub top : ℕ
 
-abbrev pub machine : List ℕ → Progress → Machine
-machine w s = record { work = w; progress = s }
+abbrev pub machine : List ℕ → ℕ → ℕ → ℕ → Machine
+machine w at rows top = record { work = w; at = at; rows = rows; top = top }
 
-abbrev pub progress_to : ℕ → ℕ → ℕ → Progress
-progress_to at rows top = record { at = at; rows = rows; top = top }
-
--- where a step of the code has come to, with the numbers that it leaves; or its refusal
-abbrev pub reached : List ℕ → Result Progress Refused → Result Machine Refused
-reached w (Ok s) = Ok (machine w s)
-reached w (Err e) = Err e
-
-abbrev pub onward : Progress → Line → Stack → Machine
-onward s l x = machine x.work (progress_to l.next (s.rows + 1) x.top)
+abbrev pub onward : Machine → Line → Stack → Machine
+onward m l x = machine x.work l.next (m.rows + 1) x.top
 
 abbrev pub below : Bytes → ℕ → ℕ → Line → Machine → Stack
 below text e d l m =
-    pushed_due m.progress.rows (children_by l.kind l.count0 l.count1 l.count2) (d - 1)
-    (lessened e (stack (row_written text m.progress.rows m.progress.at l m.work) m.progress.top))
+    pushed_due m.rows (children_by l.kind l.count0 l.count1 l.count2) (d - 1)
+    (lessened e (stack (row_written text m.rows m.at l m.work) m.top))
 
 abbrev pub taken_if : Bytes → ℕ → ℕ → Result Line Refused → Machine → Result Machine Refused
-taken_if text e d (Ok l) m = Ok (onward m.progress l (below text e d l m))
+taken_if text e d (Ok l) m = Ok (onward m l (below text e d l m))
 taken_if text e d (Err r) m = Err r
 
 -- the next line is taken, which is due by the entry e
 unfoldable pub taken : Bytes → ℕ → Machine → Result Machine Refused
-taken text e m = taken_if text e (e / 8 % 128) (due_at text m.progress.at (e % 8) (m.progress.rows + 2) (e / 8 % 128)) m
+taken text e m = taken_if text e (e / 8 % 128) (due_at text m.at (e % 8) (m.rows + 2) (e / 8 % 128)) m
 
 abbrev pub entry_of : Machine → ℕ
-entry_of m = get_or m.work (agenda_base + m.progress.top - 1) 0
+entry_of m = get_or m.work (agenda_base + m.top - 1) 0
 
 abbrev pub turn_by : Bytes → ℕ → Machine → Result Machine Refused
 turn_by text e m =
     cond (eqb (e % 8) 7)
-    (Ok (machine (row_closed (e / 1_024) m.progress.rows m.work) (progress_to m.progress.at m.progress.rows (m.progress.top - 1))))
+    (Ok (machine (row_closed (e / 1_024) m.rows m.work) m.at m.rows (m.top - 1)))
     (taken text e m)
 
 unfoldable pub turn_of : Bytes → Machine → Result Machine Refused
@@ -85,15 +79,15 @@ turn_of text m = turn_by text (entry_of m) m
 
 -- turns until nothing is due, or a line is refused
 pub data Turns (text : Bytes) : Machine → Result Machine Refused → Type 0 where
-  done : {m : Machine} → m.progress.top ≡ 0 → Turns text m (Ok m)
-  more : {m n : Machine} {x : Result Machine Refused} → 0 < m.progress.top → turn_of text m ≡ Ok n → Turns text n x → Turns text m x
-  out : {m : Machine} {e : Refused} → 0 < m.progress.top → turn_of text m ≡ Err e → Turns text m (Err e)
+  done : {m : Machine} → m.top ≡ 0 → Turns text m (Ok m)
+  more : {m n : Machine} {x : Result Machine Refused} → 0 < m.top → turn_of text m ≡ Ok n → Turns text n x → Turns text m x
+  out : {m : Machine} {e : Refused} → 0 < m.top → turn_of text m ≡ Err e → Turns text m (Err e)
 
 -- the start, after a first line with these counts that ends before an offset
 unfoldable pub first_machine : ℕ → ℕ → ℕ → List ℕ → Machine
 first_machine globals stmts at w =
     let x = pushed 1 globals deepest (pushed 5 stmts deepest (stack (cleared w) 0)) in
-    machine x.work (progress_to at 0 x.top)
+    machine x.work at 0 x.top
 
 -- the rest of the text from an offset on, where line n starts
 abbrev pub rest_at : Bytes → ℕ → ℕ → Rest
@@ -107,20 +101,6 @@ pub record First (text : Bytes) (l : Line) : Type 0 where
   pub inside : l.next ≤ length text
 
 -- the answer where the turns end: refusal 4 where a line is left
-abbrev pub answer_at : Bytes → ℕ → Result Progress Refused → Result Tree Refused
-answer_at text globals (Ok s) = cond (ltb s.at (length text)) (refused_for LineLeft (s.rows + 2)) (Ok (record { globals = globals; lines = s.rows }))
+abbrev pub answer_at : Bytes → ℕ → Result Machine Refused → Result Tree Refused
+answer_at text globals (Ok m) = cond (ltb m.at (length text)) (refused_for LineLeft (m.rows + 2)) (Ok (record { globals = globals; lines = m.rows }))
 answer_at text globals (Err e) = Err e
-
--- what keeps the numbers small, and what falls with each turn
-pub record Bounded (text : Bytes) (s : Progress) : Type 0 where
-  pub inside : s.at ≤ length text
-  pub short : length text ≤ 65_536
-  pub few : s.rows ≤ 4_096
-  pub due : s.top + 8 * (length text - s.at) ≤ 8 * length text + 8
-
-abbrev pub left : Bytes → Progress → ℕ
-left text s = s.top + 8 * (length text - s.at)
-
--- a step that is not refused: the bounds hold again, and less is left
-abbrev pub Onward : Bytes → Progress → Result Progress Refused → Type 0
-Onward text s r = IfOk r (λ t. Bounded text t × (left text t < left text s))

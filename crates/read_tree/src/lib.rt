@@ -2,17 +2,18 @@
 // recurses: each turn takes one line, writes its row, and puts the lines due below it on the agenda.
 #![tactic(auto)]
 
-ghost use Rattle.std.specs.Prelude.{◌≡◌, ◌+◌, ◌-◌, ◌<◌, ◌≤◌, length, Result, IfOk};
+ghost use Rattle.std.specs.Prelude.{◌≡◌, ◌<◌, ◌≤◌, length};
 ghost use Rattle.spec_text.specs.SortsModel.{sort_number};
 ghost use Rattle.spec_text.specs.Reading.{reading, ended};
-ghost use Rattle.spec_text.specs.declared.refusal.Refused.{Refused};
-ghost use Rattle.read_agenda.specs.Entries.{due_word};
 ghost use Rattle.read_agenda.specs.AgendaModel.{after};
 ghost use Rattle.read_tree.specs.Laid.{Answers};
-ghost use Rattle.read_tree.specs.MachineModel.{First, due_at, row_written, row_closed, Machine, machine, reached, taken, turn_of, Turns, answer_at, rest_at, Bounded, left, Onward};
+ghost use Rattle.read_tree.specs.MachineModel.{First, due_at, row_written, row_closed, rest_at};
 
-use read_agenda::{Due, Entry};
+mod reader;
+
+use read_agenda::Due;
 use read_line::Line;
+use reader::Reader;
 use spec_text::{Refusal, Refused, Sort};
 use work_rows::LINE_KINDS;
 
@@ -35,20 +36,12 @@ pub struct Tree {
     pub lines: usize,
 }
 
-// How far the reading is: the offset of the next line, the rows written, and the entries of the agenda.
-#[derive(Clone, Copy, PartialEq, Eq)]
-pub struct Progress {
-    pub at: usize,
-    pub rows: usize,
-    pub top: usize,
-}
-
 // The line that starts at an offset, where line n is due and is one of a sort, with so many levels left.
 #[tactic(auto, unfolding(crate::specs::MachineModel::due_at), using(crate::proofs::SortNumbers::sort_tests))]
 fn line_due(text: &[u8], at: usize, sort: Sort, n: usize, levels: usize) -> Result<Line, Refused>
     ensures { result ≡ due_at text.now at (sort_number sort) n levels }
 {
-    let refused = |why: Refusal| Refused { why: why, line: n };
+    let refused = |why: Refusal| Refused { why, line: n };
     if text.len() <= at {
         return Err(refused(Refusal::LineMissing));
     }
@@ -79,86 +72,12 @@ fn write_row(text: &[u8], work: &mut [u32], i: usize, at: usize, line: Line)
 // What is below row i has been read: its row gets the number of rows after it.
 #[tactic(auto, unfolding(crate::specs::MachineModel::row_closed))]
 fn close(work: &mut [u32], i: usize, rows: usize)
-    requires { (i < 4294967296) × (rows ≤ 4096) }
+    requires { rows ≤ 4096 }
     ensures { work.new ≡ row_closed i rows work.old }
 {
     let kind = work_rows::kind(work, i);
-    work_rows::put(work, i, kind + LINE_KINDS * rows.saturating_sub(i + 1))
-}
-
-// Takes the next line, which is due by the entry on top.
-#[tactic(auto, using(crate::proofs::InNumbers::taken_due, crate::proofs::Bounds::fresh))]
-fn take_line(text: &[u8], work: &mut [u32], s: Progress, due: Due) -> Result<Progress, Refused>
-    requires bounded { Bounded text.now s }
-    requires some_due { 0 < s.top }
-    ensures line_taken { reached work.new result ≡ taken text.now (due_word due) (machine work.old s) }
-    ensures goes_on { Onward text.now s result }
-{
-    let line = line_due(text, s.at, due.sort, s.rows + 2, due.levels)?;
-    write_row(text, work, s.rows, s.at, line);
-    let top = read_agenda::one_less(work, s.top, due);
-    let children = read_words::children_of(
-        line.kind,
-        line.count0 as usize,
-        line.count1 as usize,
-        line.count2 as usize,
-    );
-    let top = read_agenda::push_due(work, top, s.rows, children, due.levels.saturating_sub(1));
-    Ok(Progress {
-        at: line.next,
-        rows: s.rows + 1,
-        top: top,
-    })
-}
-
-// One turn: what is on top of the agenda.
-#[tactic(auto, unfolding(crate::specs::MachineModel::turn_of))]
-fn step(text: &[u8], work: &mut [u32], s: Progress) -> Result<Progress, Refused>
-    requires bounded { Bounded text.now s }
-    requires some_due { 0 < s.top }
-    ensures turn_taken { reached work.new result ≡ turn_of text.now (machine work.old s) }
-    ensures goes_on { Onward text.now s result }
-{
-    match read_agenda::on_top(work, s.top) {
-        Entry::Due(due) => take_line(text, work, s, due),
-        Entry::Close(row) => {
-            close(work, row, s.rows);
-            Ok(Progress {
-                top: s.top - 1,
-                ..s
-            })
-        }
-    }
-}
-
-// Turn after turn, until nothing is due.
-fn run(text: &[u8], work: &mut [u32], first: Progress) -> Result<Progress, Refused>
-    requires { Bounded text.now first }
-    ensures turns_taken { (x : Result Machine Refused) → Turns text.now (machine work.old first) x → reached work.new result ≡ x }
-    ensures bounded { IfOk result (λ s. Bounded text.now s) }
-{
-    let mut s = first;
-    while 0 < s.top {
-        s = step(text, work, s)?;
-    }
-    Ok(s)
-}
-
-// The answer when nothing is due any more: refusal 4 where a line is left.
-fn answer(text: &[u8], globals: usize, end: Progress) -> Result<Tree, Refused>
-    requires { end.rows ≤ 4096 }
-    ensures { result ≡ answer_at text.now globals (Ok end) }
-{
-    if end.at < text.len() {
-        return Err(Refused {
-            why: Refusal::LineLeft,
-            line: end.rows + 2,
-        });
-    }
-    Ok(Tree {
-        globals: globals,
-        lines: end.rows,
-    })
+    let below = rows.saturating_sub(i).saturating_sub(1);
+    work_rows::put(work, i, kind + LINE_KINDS * below)
 }
 
 // Reads the lines after the first.
@@ -188,13 +107,15 @@ fn rest(text: &[u8], work: &mut [u32], first: Line) -> Result<Tree, Refused>
             count: globals,
         },
     );
-    let start = Progress {
+    let mut reader = Reader {
+        text,
+        work,
         at: first.next,
         rows: 0,
-        top: top,
+        top,
     };
-    let end = run(text, work, start)?;
-    answer(text, globals, end)
+    reader.run()?;
+    reader.answer(globals)
 }
 
 // Reads a tree text: any bytes, any work buffer, whatever it holds.
