@@ -2,12 +2,13 @@
 -- writes changes this: it keeps the rows, the second numbers and the heads, and from these alone names are found.
 use Rattle.std.proofs.Common.{ℕ, zero, suc, ◌+◌, ◌-◌, ◌/◌, ◌%◌, ◌≤◌, ◌<◌, arith, ◌≡◌, refl, sym, ap, ap₂, ◌∙◌, subst, Bool, true, false, cond, List, ◌∷◌, ◌++◌, append_assoc, leb, ltb, length, get_or, drop, length-append, length-drop, drop-cons, drop-drop, ltb-true}
 use Rattle.std.proofs.Math.Seq.{drop-append_seam}
+use Rattle.std.specs.Prelude.{Option, Some as is_row}
 use Rattle.spec_text.specs.Bytes.{Bytes, same}
 use Rattle.spec_text.specs.Tree.{Line, Expr, Stmt, var, node, access, tuple, call, lambda, simple, assign, block, choice, for, def, class, len_e, len_s}
 use Rattle.read_fields.specs.FieldsModel.{field_at, hash_of}
 use Rattle.work_rows.specs.Layout.{rows_most, kind_at, number_at, offset_at, same_at, lines_below, after_row}
 use Rattle.read_names.proofs.Turns.{link_falls}
-use Rattle.read_names.specs.ChainsModel.{head_at, link_at, follow, lookup}
+use Rattle.read_names.specs.ChainsModel.{head_at, link_at, follow, row_number as number_or_none, lookup}
 use Rattle.work_rows.specs.Rows.{Row, row, rows_e, rows_s}
 use Rattle.read_tree.specs.Laid.{no_row}
 use Rattle.work_rows.proofs.Lengths.{Sized}
@@ -109,13 +110,13 @@ module _ {w v : List ℕ} (k : Kept w v) where
   kept_walk text x zero c l = refl
   kept_walk text x (suc n) zero l = refl
   kept_walk text x (suc n) (suc j) l =
-      ap₂ {C = ℕ} (λ o r. elim (same (field_at text o) x) [ true ↦ j | false ↦ r ]) (kept_offset j (omega arith))
+      ap₂ {C = Option ℕ} (λ o r. cond (same (field_at text o) x) (is_row j) r) (kept_offset j (omega arith))
       (ap (λ c. follow n text v c x) (kept_link j (omega arith)) ∙ kept_walk text x n (link_at w j) (omega (arith, link_falls w j)))
 
   kept_lookup : (text x : Bytes) → head_at w (hash_of x) ≤ 4_096 → lookup text v x ≡ lookup text w x
   kept_lookup text x l =
       let e = kept_head (hash_of x) in
-      ap (λ c. follow c text v c x) e ∙ kept_walk text x (head_at w (hash_of x)) (head_at w (hash_of x)) l
+      ap number_or_none (ap (λ c. follow c text v c x) e ∙ kept_walk text x (head_at w (hash_of x)) (head_at w (hash_of x)) l)
 
   kept_params : (text : Bytes) (i : ℕ) → i < 4_096 → params_of text v i ≡ params_of text w i
   unfolding params_of

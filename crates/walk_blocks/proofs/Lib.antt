@@ -1,2 +1,2 @@
 -- The proofs about the way into a block.
-pub mod Ways
+pub mod Params

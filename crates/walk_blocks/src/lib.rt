@@ -9,7 +9,7 @@ ghost use Rattle.walk_blocks.specs.BlocksModel.{entered_one, entered, opened};
 use walk_scopes::Scope;
 
 // Binds a parameter of row i.
-#[tactic(auto, unfolding(crate::specs::BlocksModel::entered_one), using(crate::proofs::Ways::one_none))]
+#[tactic(auto, unfolding(crate::specs::BlocksModel::entered_one, walk_own_names::specs::OwnNamesModel::noted, walk_scopes::specs::ScopesModel::defined, work_marks::specs::MarksModel::raised_block, work_marks::specs::MarksModel::raised_lambda))]
 fn enter_one(text: &[u8], work: &mut [u32], scope: &Scope, i: usize, name: &[u8])
     requires { i ≤ 4096 }
     ensures { work.new ≡ entered_one text.now (scope_of scope.now) i name.now work.old }
@@ -23,16 +23,13 @@ fn enter_one(text: &[u8], work: &mut [u32], scope: &Scope, i: usize, name: &[u8]
 }
 
 // Binds the parameters of row i.
+#[tactic(auto, unfolding(crate::proofs::Params::names_entered), using(crate::proofs::Params::all_entered))]
 fn enter(text: &[u8], work: &mut [u32], scope: &Scope, i: usize)
     requires { i ≤ 4096 }
     ensures { work.new ≡ entered text.now (scope_of scope.now) i (params_of text.now work.old i) work.old }
 {
-    let mut c = read_row::params(text, work, i);
-    while c.more {
-        let name = read_fields::field(text, c.at);
-        let end = c.at + name.len();
+    for name in read_row::params(text, work, i) {
         enter_one(text, work, scope, i, name);
-        c = read_fields::next(text, end);
     }
 }
 

@@ -13,6 +13,9 @@ use spec_faults::FaultKind;
 use walk_scopes::{Home, Scope};
 use work_marks::Own;
 
+// The first parameter of a method.
+const SELF: &[u8] = b"self";
+
 // What an expression is read for.
 #[derive(Clone, Copy)]
 pub enum Use {
@@ -93,9 +96,7 @@ pub fn judge_read(work: &mut [u32], scope: &Scope, used: Use, name: usize, i: us
 pub fn lacks_self(text: &[u8], work: &[u32], i: usize) -> bool
     ensures { result ≡ lacks_self (params_of text.now work.now i) }
 {
-    let c = read_row::params(text, work, i);
-    if c.more {
-        return !read_fields::is_field(text, c.at, b"self");
-    }
-    true
+    read_row::params(text, work, i)
+        .next()
+        .is_none_or(|name| name != SELF)
 }

@@ -1,17 +1,14 @@
--- The loop's invariant: the parameters that the cursor has still to take, bound in the buffer, give what is wanted; and the next one starts
--- inside the text.
-use Rattle.std.proofs.Common.{length, true, ◌+◌, ◌-◌, ◌≡◌, ◌≤◌}
-use Rattle.read_row.specs.RowModel.{parts_from, params_of}
+-- The loop's invariant: the parameters that are left, bound in the buffer, give what is wanted.
+use Rattle.std.proofs.Common.{◌≡◌}
+use Rattle.read_row.specs.Left.{bytes_of, fields_left}
+use Rattle.read_row.specs.RowModel.{params_of}
 use Rattle.walk_scopes.specs.ScopesModel.{scope_of}
-use Rattle.walk_blocks.specs.BlocksModel.{entered}
+use Rattle.walk_blocks.proofs.Params.{names_entered}
 use Rattle.walk_blocks.proofs.enter.Given as goal
 
-abbrev pub invariant-loop-c : goal.invariant-loop-c
-invariant-loop-c l =
-    (length l.work ≡ length l.initial.work)
-    × (entered l.text (scope_of l.scope) l.i (parts_from l.text l.c) l.work ≡ entered l.text (scope_of l.scope) l.i (params_of l.text l.initial.work l.i) l.initial.work)
-    × (l.c.more ≡ true → l.c.at ≤ length l.text)
-
-abbrev pub decreases-loop-c : goal.decreases-loop-c
-decreases-loop-c l =
-    length l.text + 1 - l.c.at
+abbrev pub invariant-loop-name : goal.invariant-loop-name
+invariant-loop-name l =
+    (goal.iterator-loop-name).can_next l.name-iterator
+    × (goal.iterator-loop-name).is_finite l.name-iterator
+    × (names_entered l.text (scope_of l.scope) l.i (fields_left l.name-iterator) l.work
+    ≡ names_entered l.text (scope_of l.scope) l.i (bytes_of (params_of l.text l.initial.work l.i)) l.initial.work)

@@ -1,7 +1,7 @@
 -- It looks at the first parameter, if there is one.
-use Rattle.read_row.proofs.FieldsLeft.{lacks_other}
+use Rattle.std.proofs.Common.{rules}
+use Rattle.walk_judge.proofs.First.{first_lacks}
 use Rattle.walk_judge.proofs.lacks_self.Goals as goal
 
-pub returns-then-c : goal.returns-then-c
-returns-then-c c =
-    lacks_other c.args.text.now c.params-c.result _ c.params-c.ensures.parts c.if-c.true c.is_field.result c.is_field.ensures
+pub returns : goal.returns
+returns c = first_lacks _ c.params.result c.next.new.self c.next.result c.is_none_or.result c.params.ensures c.next.ensures.steps (search rules)

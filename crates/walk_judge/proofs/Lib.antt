@@ -1,0 +1,2 @@
+-- The first parameter of a method.
+pub mod First
