@@ -1,8 +1,8 @@
 -- Laws of tests, names and lists that the theorems about faults share.
-use Rattle.std.proofs.Common.{ℕ, ◌+◌, ◌≤◌, arith, ◌≡◌, refl, sym, ap, ap₂, ◌∙◌, ◌⊎◌, inl, inr, ⊎_elim, Bool, true, false, cond, ◌&&◌, ◌||◌, List, [], ◌∷◌, ◌++◌, map, eqb, length, length-append, eq-eqb}
+use Rattle.std.proofs.Common.{ℕ, ◌+◌, ◌≤◌, arith, ◌≡◌, refl, sym, ap, ap₂, ◌∙◌, ◌⊎◌, inl, inr, ⊎_elim, Bool, true, false, cond, ◌&&◌, ◌||◌, List, [], ◌∷◌, ◌++◌, map, eqb, length, get_or, length-append, eq-eqb}
 use Rattle.std.proofs.Math.Bool.{or_assoc, or-true}
 use Rattle.std.proofs.lemmas.List.Elements.{filter-append}
-use Rattle.std.proofs.lemmas.List.Folds.{list_all-append}
+use Rattle.std.proofs.lemmas.List.Folds.{list_all-append, list_any_none}
 use Rattle.std.proofs.lemmas.Bool.{false≢true}
 use Rattle.spec_text.specs.Bytes.{Bytes, Part, same, mem, any, all, In, here, there}
 pub use Rattle.std.specs.List.{AllByRecursion as Each}
@@ -49,8 +49,7 @@ module _ {A : Type 0} where
   any_or f g (a ∷ l) = ap (λ t. f a || g a || t) (any_or f g l) ∙ or_swap (f a) (g a) (any f l) (any g l)
 
   pub any_none : (f : A → Bool) → ((a : A) → f a ≡ false) → (l : List A) → any f l ≡ false
-  any_none f h [] = refl
-  any_none f h (a ∷ l) = ap₂ ◌||◌ (h a) (any_none f h l)
+  any_none f h l = list_any_none f l (λ i d k. h (get_or l i d))
 
 -- ---- one of a list
 pub in_left : {A : Type 0} {a : A} {l : List A} (m : List A) → In a l → In a (l ++ m)
