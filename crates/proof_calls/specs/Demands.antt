@@ -2,11 +2,12 @@
 -- `Checks`, `Reports`, `Messages` and `Names` are what the calls promise (serduzhap, specs/Calls): they speak of the lengths of the buffers, and
 -- not of what the buffers held.
 use Rattle.std.specs.Prelude.{Option, None, Result, Ok, Err, ℕ, ◌*◌, ◌<◌, ◌≤◌, ◌≡◌, ◌↔◌, ◌⊎◌, true, cond, List, [], ◌∷◌, length, take, drop}
+use Rattle.std.specs.List.{filter as keep}
 use Rattle.std.proofs.Math.Option.{some}
 use Rattle.spec_text.specs.Bytes.{Bytes}
 use Rattle.spec_text.specs.Tree.{Tree}
 use Rattle.spec_text.specs.Reading.{longest_text, shortest_work, Reading, tree, refusal, reading}
-use Rattle.spec_faults.specs.Faults.{Fault, is, keep, faults, is_fault, ordered, record_length, full_report, message_of}
+use Rattle.spec_faults.specs.Faults.{Fault, is, faults, is_fault, ordered, record_length, full_report, message_of}
 use Rattle.spec_faults.specs.Rust.{Order, Rearranges, as_read, analyze_with_globals, Answers}
 use Rattle.spec_answers.specs.Answers.{faulty, refused_at, nth_fault}
 use Rattle.spec_answers.specs.RustAnswers.{SpanOf, worded}

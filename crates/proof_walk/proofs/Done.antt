@@ -18,7 +18,7 @@ use Rattle.proof_walk.specs.Notes.{OwnNames}
 use Rattle.proof_walk.specs.Slots.{key_of, slots_from, keys}
 use Rattle.proof_walk.proofs.State.{Open, Raised, At}
 use Rattle.proof_walk.proofs.PartRows.{table_kept}
-use Rattle.proof_walk.proofs.InExprs.{places_on, slots_same, slots_both}
+use Rattle.proof_walk.proofs.InExprs.{places_on, key_some, slots_same, slots_both}
 
 -- ---- marks
 pub raised_same : {end a b : ℕ} → b ≡ a → Raised end a b
@@ -53,10 +53,6 @@ slots_then w v seen fs gs {r} {m} {e} l k before p q =
     slots_between v r m e l k
     ∙ ap₂ (λ a b. a ++ b) (slots_same w v r (m - r) (λ i h. before i (omega arith)) ∙ p) q
     ∙ sym (ap keys (dedupe_append seen fs gs) ∙ map-append _ (dedupe seen fs) (dedupe (seen_after seen fs) gs))
-
-key_some : (n k : ℕ) → 0 < k → key_of n k ≡ record { line = n; kind = k } ∷ []
-key_some n zero p = absurd (omega arith)
-key_some n (suc k) p = refl
 
 -- ---- what rows from r on do to the buffer, in the block of s
 pub record Change (num : Bytes → ℕ) (s : Scope) (r : ℕ) (w v : List ℕ) : Type 0 where

@@ -87,6 +87,10 @@ pub record Step (num : Bytes → ℕ) (s : Scope) (ls : List Placed) (v : Env) (
   pub places : Places (r + n) (seen_after seen fs)
 
 -- ---- slots of rows one after the other
+pub key_some : (n k : ℕ) → 0 < k → key_of n k ≡ record { line = n; kind = k } ∷ []
+key_some n zero l = absurd (omega arith)
+key_some n (suc k) l = refl
+
 pub slots_same : (w z : List ℕ) (r n : ℕ) → ((i : ℕ) → i < r + n → slot_at z i ≡ slot_at w i) → slots_from z r n ≡ slots_from w r n
 slots_same w z r zero h = refl
 slots_same w z r (suc n) h =

@@ -21,7 +21,7 @@ use Rattle.proof_walk.specs.Table.{Here}
 use Rattle.proof_walk.specs.Slots.{key_of, slots_from, keys}
 use Rattle.proof_walk.proofs.State.{home_number, Open, blamed, place_of, Places}
 use Rattle.proof_walk.proofs.PartRows.{head_row}
-use Rattle.proof_walk.proofs.InExprs.{places_on, none_blamed, Captured, not_assigned, not_in_view, Stands, Step, step_quiet}
+use Rattle.proof_walk.proofs.InExprs.{places_on, none_blamed, Captured, not_assigned, not_in_view, Stands, Step, key_some, step_quiet}
 
 -- ---- the rows of a part, from row r up to the row stop
 -- from row r up to the row stop, no name of the def around becomes assigned
@@ -63,10 +63,6 @@ pub data CalledAs : Bool → Use → Type 0 where
 open_test : (end r mark : ℕ) (b : Bool) → Open end r mark b → (b ≡ true → r < end) → ltb r mark ≡ b
 open_test end r mark true o l = lt-ltb r mark (omega (arith, o.far refl, l refl))
 open_test end r mark false o l = le-ltb r mark (omega (arith, o.closed refl))
-
-key_some : (n k : ℕ) → 0 < k → key_of n k ≡ record { line = n; kind = k } ∷ []
-key_some n zero l = absurd (omega arith)
-key_some n (suc k) l = refl
 
 -- under lambdas, the names that the outermost is blamed for; outside, none
 open_before : {s : Scope} {v : Env} {r stop : ℕ} {ls : List Placed} → Under s v r stop ls → r < stop → (seen : List Fault) (x : Bytes) → Places r seen

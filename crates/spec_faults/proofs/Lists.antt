@@ -1,9 +1,12 @@
 -- Laws of tests, names and lists that the theorems about faults share.
-use Rattle.std.proofs.Common.{ℕ, ◌+◌, ◌≤◌, arith, ◌≡◌, refl, sym, ap, ap₂, ◌∙◌, ◌⊎◌, inl, inr, ⊎_elim, Bool, true, false, cond, ◌&&◌, ◌||◌, List, [], ◌∷◌, ◌++◌, map, eqb, length, eq-eqb}
+use Rattle.std.proofs.Common.{ℕ, ◌+◌, ◌≤◌, arith, ◌≡◌, refl, sym, ap, ap₂, ◌∙◌, ◌⊎◌, inl, inr, ⊎_elim, Bool, true, false, cond, ◌&&◌, ◌||◌, List, [], ◌∷◌, ◌++◌, map, eqb, length, get_or, length-append, eq-eqb}
 use Rattle.std.proofs.Math.Bool.{or_assoc, or-true}
+use Rattle.std.proofs.lemmas.List.Elements.{filter-append}
+use Rattle.std.proofs.lemmas.List.Folds.{list_all-append, list_any_none}
 use Rattle.std.proofs.lemmas.Bool.{false≢true}
 use Rattle.spec_text.specs.Bytes.{Bytes, Part, same, mem, any, all, In, here, there}
 pub use Rattle.std.specs.List.{AllByRecursion as Each}
+pub use Rattle.std.proofs.lemmas.List.Folds.{list_any-append as any_append}
 pub use Rattle.spec_text.proofs.Lists.{and_split, eqb_sym, same_refl, same_eq, All, all_nil as none, all_cons as also}
 use Rattle.spec_faults.specs.Position.{Visited}
 use Rattle.spec_faults.specs.Bindings.{Binding}
@@ -37,10 +40,6 @@ or_swap false b true d = or-true b
 or_swap false b false d = refl
 
 module _ {A : Type 0} where
-  pub any_append : (f : A → Bool) (a b : List A) → any f (a ++ b) ≡ (any f a || any f b)
-  any_append f [] b = refl
-  any_append f (e ∷ a) b = ap (λ t. f e || t) (any_append f a b) ∙ sym (or_assoc (f e) (any f a) (any f b))
-
   pub any_same : (f g : A → Bool) → ((a : A) → f a ≡ g a) → (l : List A) → any f l ≡ any g l
   any_same f g h [] = refl
   any_same f g h (a ∷ l) = ap₂ ◌||◌ (h a) (any_same f g h l)
@@ -50,8 +49,7 @@ module _ {A : Type 0} where
   any_or f g (a ∷ l) = ap (λ t. f a || g a || t) (any_or f g l) ∙ or_swap (f a) (g a) (any f l) (any g l)
 
   pub any_none : (f : A → Bool) → ((a : A) → f a ≡ false) → (l : List A) → any f l ≡ false
-  any_none f h [] = refl
-  any_none f h (a ∷ l) = ap₂ ◌||◌ (h a) (any_none f h l)
+  any_none f h l = list_any_none f l (λ i d k. h (get_or l i d))
 
 -- ---- one of a list
 pub in_left : {A : Type 0} {a : A} {l : List A} (m : List A) → In a l → In a (l ++ m)
@@ -110,8 +108,7 @@ all_in (also h r) here = h
 all_in (also h r) (there i) = all_in r i
 
 pub all_two : {A : Type 0} (p : A → Bool) (l m : List A) → all p l ≡ true → all p m ≡ true → all p (l ++ m) ≡ true
-all_two p [] m h i = i
-all_two p (a ∷ l) m h i = let e : (p a ≡ true) × (all p l ≡ true) = and_split (p a) (all p l) h in ap₂ ◌&&◌ e.0 (all_two p l m e.1 i)
+all_two p l m h i = list_all-append p l m ∙ ap₂ ◌&&◌ h i
 
 -- a property of each element, by the list's shape
 module _ {A : Type 0} where
@@ -168,12 +165,7 @@ abbrev pub count : {A : Type 0} → (A → Bool) → List A → ℕ
 count q l = length (keep q l)
 
 pub count_append : {A : Type 0} (q : A → Bool) (l m : List A) → count q (l ++ m) ≡ count q l + count q m
-count_append q [] m = omega arith
-count_append q (a ∷ l) m = go (q a) (count_append q l m)
-  where
-    go : (b : Bool) → count q (l ++ m) ≡ count q l + count q m → length (cond b (a ∷ keep q (l ++ m)) (keep q (l ++ m))) ≡ length (cond b (a ∷ keep q l) (keep q l)) + count q m
-    go true h = omega arith
-    go false h = h
+count_append q l m = ap length (filter-append q l m) ∙ length-append (keep q l) (keep q m)
 
 pub count_none : {A : Type 0} (q : A → Bool) {l : List A} → All (λ (a : A). q a ≡ false) l → count q l ≡ 0
 count_none q none = refl

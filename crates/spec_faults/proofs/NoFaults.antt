@@ -16,6 +16,7 @@ use Rattle.spec_faults.proofs.LambdaParams.{lambda_param_lem}
 use Rattle.spec_faults.proofs.ListingWalk.{once}
 use Rattle.spec_faults.proofs.Once.{placed, by_place_once, faults_once}
 use Rattle.spec_faults.proofs.Places.{PlacedWithin, faults_within}
+use Rattle.spec_faults.proofs.Report.{by_place-nil}
 
 -- ---- a read has no fault exactly when its name is in view and, where it is an own name, is assigned or a lambda's parameter
 read_fine : (h : Home) (ls : List Placed) (u : Use) (r : Placed) (p o a v : Bool) → judge_read h ls u r p o a v ≡ []
@@ -139,14 +140,10 @@ nothing_judged t e = go (judge (bindings t) (visited t)) (faults_within t) (sym 
     go [] w d = refl
     go (f ∷ fs) (also h r) d = absurd (listed (first_line t) (len_ss t.body) f fs h.0 h.1 d)
 
-none_listed : (n m : ℕ) → by_place n m [] ≡ []
-none_listed n zero = refl
-none_listed n (suc m) = none_listed (suc n) m
-
 nothing_listed : (t : Tree) → judge (bindings t) (visited t) ≡ [] → faults t ≡ []
 nothing_listed t e =
     ap (λ fs. by_place (first_line t) (len_ss t.body) (keep (λ (f : Fault). not (repeated (bindings t) (visited t) f)) fs)) e
-    ∙ none_listed (first_line t) (len_ss t.body)
+    ∙ by_place-nil (first_line t) (len_ss t.body)
 
 -- ---- a tree
 pub no_faults : (t : Tree) → (faults t ≡ []) ↔ Rule t

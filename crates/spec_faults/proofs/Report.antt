@@ -32,7 +32,7 @@ place_one q n (suc m) f fs h i = go (eqb n f.place) refl (place_one q (suc n) m 
         let p : suc n ≤ f.place = omega (arith, eqb-false n f.place e) in
         rw (e, count_append q (placed n fs) (by_place (suc n) m (f ∷ fs)), count_append q (placed n fs) (by_place (suc n) m fs), k p (omega arith)) (omega arith)
 
-by_place-nil : (n m : ℕ) → by_place n m [] ≡ []
+pub by_place-nil : (n m : ℕ) → by_place n m [] ≡ []
 by_place-nil n zero = refl
 by_place-nil n (suc m) = by_place-nil (suc n) m
 

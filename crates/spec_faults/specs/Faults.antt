@@ -1,7 +1,9 @@
 -- Faults by position: the rules for reads, faults, the full report, the messages. No stack of scopes, and no walk.
 use Rattle.std.specs.Prelude.{ℕ, zero, suc, Bool, true, false, cond, not, ◌&&◌, ◌||◌, List, [], ◌∷◌, ◌++◌, eqb, leb, ltb, length}
+use Rattle.std.specs.List.{list_any as any, list_all as all}
+pub use Rattle.std.specs.List.{filter as keep}
 use Prim.Native.String.{String}
-use Rattle.spec_text.specs.Bytes.{Bytes, bytes, same, Part, no_part, any, all}
+use Rattle.spec_text.specs.Bytes.{Bytes, bytes, same, Part, no_part}
 use Rattle.spec_text.specs.Tree.{Line, Tree, len_ss, first_line}
 use Rattle.spec_faults.specs.Bindings.{Binding, bindings, counts}
 use Rattle.spec_faults.specs.Position.{Placed, Home, in_module, in_def, in_method, Where, numbers, blocks, Use, value, callee, Role, is_read, is_target, is_refused, is_def, is_class, is_lambda, is_other, is_for, is_method, Visited, visited}
@@ -143,10 +145,6 @@ precedes g f = capture g.kind && (eqb g.place f.place && (ltb g.line f.line && s
 abbrev pub repeated : List Binding → List Visited → Fault → Bool
 repeated bs vs f =
     elim (capture f.kind) [ true ↦ any (λ (v : Visited). any (λ (g : Fault). precedes g f) (fault_of bs v)) vs | false ↦ false ]
-
-abbrev pub keep : {A : Type 0} → (A → Bool) → List A → List A
-keep p [] = []
-keep p (a ∷ l) = cond (p a) (a ∷ keep p l) (keep p l)
 
 -- "The order is by line of place, then by line of that read." From line n on, m lines:
 abbrev pub by_place : ℕ → ℕ → List Fault → List Fault

@@ -3,11 +3,12 @@
 -- order that is any (`Order`). `ctx.builtins` is the table of built-in names, and `ctx.functions`, which only the type check reads, is left out.
 -- An expression leaves the stack as it found it (each push has its pop), so its walk hands back no stack.
 use Rattle.std.specs.Prelude.{ℕ, ◌≡◌, Bool, true, false, cond, not, ◌&&◌, ◌||◌, List, [], ◌∷◌, ◌++◌}
+use Rattle.std.specs.List.{filter as keep}
 use Rattle.std.proofs.Math.Option.{Option, none, some}
 use Rattle.spec_text.specs.Bytes.{Bytes, Part, mem, In}
 use Rattle.spec_text.specs.Tree.{Line, Expr, Exprs, Stmt, Stmts, Methods, Tree, var, node, access, tuple, call, lambda, enil, econs, simple, assign, block, choice, for, def, class, snil, scons, mnil, mcons}
 use Rattle.spec_faults.specs.Builtins.{builtin_names}
-use Rattle.spec_faults.specs.Faults.{Fault, keep, lacks_self, message, message_of, capture}
+use Rattle.spec_faults.specs.Faults.{Fault, lacks_self, message, message_of, capture}
 
 -- ---- src/semantic/scope.rs
 abbrev pub ScopeStack : Type 0

@@ -1,6 +1,7 @@
 -- Laws of lists, of tests and of bytes that the theorems share.
 use Rattle.std.proofs.Common.{ℕ, zero, suc, ◌<◌, arith, ◌≡◌, refl, sym, ap, ap₂, ◌∙◌, Bool, true, false, ◌&&◌, true≢false, List, [], ◌∷◌, length, drop, get_or, drop-cons, eqb, eqb-true, eq-eqb, ne_eqb}
 use Rattle.std.proofs.lemmas.Bool.{false≢true, eqb-false}
+use Rattle.std.proofs.lemmas.List.Sums.{AllPass-from_list_all}
 use Rattle.std.proofs.Math.Option.{some}
 use Rattle.std.proofs.Math.ListN.{get_elem?}
 use Rattle.std.proofs.Math.Seq.{drop-nil}
@@ -57,9 +58,7 @@ module _ {A : Type 0} {P : A → Type 0} where
   all_and p (all_cons {a} {l} h r) e = let s : (p a ≡ true) × (all p l ≡ true) = and_split (p a) (all p l) e in all_cons (h, s.0) (all_and p r s.1)
 
 pub test_at : {A : Type 0} (p : A → Bool) (l : List A) (i : ℕ) (d : A) → all p l ≡ true → i < length l → p (get_or l i d) ≡ true
-test_at p [] i d e h = absurd (omega arith)
-test_at p (a ∷ l) zero d e h = (and_split (p a) (all p l) e).0
-test_at p (a ∷ l) (suc i) d e h = test_at p l i d (and_split (p a) (all p l) e).1 (omega arith)
+test_at p l i d e h = AllPass-from_list_all p l e i d h
 
 pub test_of : {A : Type 0} (p : A → Bool) (l : List A) (i : ℕ) (a : A) → all p l ≡ true → get_elem? l i ≡ some a → p a ≡ true
 test_of p [] i a e h = absurd cc

@@ -1,8 +1,9 @@
 -- What a line is: the 29 words, the fields of each, where each is due, and its children. FORMAT.md's table, row by row.
 use Rattle.std.specs.Prelude.{ℕ, suc, ◌+◌, Bool, true, false, cond, ◌&&◌, List, [], ◌∷◌, map, eqb, leb, length, take, drop, get_or}
 use Prim.Native.String.{String}
+use Rattle.std.specs.List.{list_all as all}
 use Rattle.std.proofs.Math.Option.{Option, none, some}
-use Rattle.spec_text.specs.Bytes.{Bytes, bytes, same, Part, no_part, all, is_name, is_number, value_of, largest_span, largest_count}
+use Rattle.spec_text.specs.Bytes.{Bytes, bytes, same, Part, no_part, is_name, is_number, value_of, largest_span, largest_count}
 use Rattle.spec_text.specs.Tree.{Line}
 
 -- ---- where a line is due, and its children
