@@ -1,5 +1,5 @@
--- The proofs about the agenda. Agenda has the theorem: turns lead to where the definition of reading leads.
-pub mod Agenda
+-- The proofs about the agenda. Turns has the theorem: turns lead to where the definition of reading leads.
+pub mod Turns
 pub mod Dues
 pub mod Lined
 pub mod Sorts

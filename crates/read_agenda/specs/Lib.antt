@@ -2,3 +2,4 @@
 pub mod AgendaModel
 pub mod StackModel
 pub mod Entries
+pub mod LentModel

@@ -70,22 +70,19 @@ module _ (text : Bytes) (g : ℕ) (v : List ℕ) where
   ends_answer many (Ends.refusal d) left = record { answer = refl; kept = tt }
 
 -- ---- the agenda is laid out from the first line's counts, and turns lead to their end
-pub rest_answers : {text : Bytes} {l : Line} {g k : ℕ} (w : List ℕ) {w₁ w₂ w₃ : List ℕ} {t₂ t₃ : ℕ} → length text ≤ 65_536 → 16_384 ≤ length w → First text l
-    → g ≡ l.count0
-    → k ≡ l.count1
+pub rest_answers : {text : Bytes} {l : Line} (w : List ℕ) {w₁ : List ℕ} {s₂ s₃ : Stack} → length text ≤ 65_536 → 16_384 ≤ length w → First text l
     → w₁ ≡ cleared w
-    → stack w₂ t₂ ≡ pushed 5 k deepest (stack w₁ 0)
-    → stack w₃ t₃ ≡ pushed 1 g deepest (stack w₂ t₂)
+    → s₂ ≡ pushed 5 l.count1 deepest (stack w₁ 0)
+    → s₃ ≡ pushed 1 l.count0 deepest s₂
     → (v : List ℕ) (x : Result Machine Refused)
-    → ((y : Result Machine Refused) → Turns text (machine w₃ l.next 0 t₃) y → x ≡ y)
+    → ((y : Result Machine Refused) → Turns text (machine s₃.work l.next 0 s₃.top) y → x ≡ y)
     → Leaves v x
-    → Answers text (ended (after l.count0 l.count1 (rest_at text l.next 2))) v (answer_at text g x)
+    → Answers text (ended (after l.count0 l.count1 (rest_at text l.next 2))) v (answer_at text l.count0 x)
 unfolding first_machine
-rest_answers {text} {l} {g} {k} w {w₁} {w₂} {w₃} {t₂} {t₃} short room f globals stmts clear e₂ e₃ v x turns left =
-    let at = l.next in
-    let reads = machine_reads text w g k at short room (omega (arith, f.globals)) (omega (arith, f.stmts)) f.start in
-    let top : stack w₃ t₃ ≡ pushed 1 g deepest (pushed 5 k deepest (stack (cleared w) 0)) = rw (e₃, e₂, clear) in
-    let m : machine w₃ at 0 t₃ ≡ first_machine g k at w = ap (λ (x : Stack). machine x.work at 0 x.top) top in
+rest_answers {text} {l} w {w₁} {s₂} {s₃} short room f clear e₂ e₃ v x turns left =
+    let reads = machine_reads text w l.count0 l.count1 l.next short room f.globals f.stmts f.start in
+    let top : s₃ ≡ pushed 1 l.count0 deepest (pushed 5 l.count1 deepest (stack (cleared w) 0)) = rw (e₃, e₂, clear) in
+    let m : machine s₃.work l.next 0 s₃.top ≡ first_machine l.count0 l.count1 l.next w = ap (λ (x : Stack). machine x.work l.next 0 x.top) top in
     let last : x ≡ reads.last = turns reads.last (subst (λ (n : Machine). Turns text n reads.last) (sym m) reads.turns) in
-    rw (sym globals, sym stmts) (ends_answer text g v (after_many g k (rest_at text at 2))
-    (subst (λ (x : Result Machine Refused). Ends text x (after g k (rest_at text at 2))) (sym last) reads.ends) left)
+    ends_answer text l.count0 v (after_many l.count0 l.count1 (rest_at text l.next 2))
+    (subst (λ (x : Result Machine Refused). Ends text x (after l.count0 l.count1 (rest_at text l.next 2))) (sym last) reads.ends) left

@@ -14,7 +14,7 @@ use Rattle.read_tree.specs.Laid.{skip, Holds}
 use Rattle.read_agenda.specs.AgendaModel.{State, Phase, on, stopped, turn, Via, here, step, stop, first, Leads, after}
 use Rattle.read_tree.specs.MachineModel.{Machine, Turns, done, more, out, turn_of, first_machine, rest_at}
 use Rattle.read_agenda.specs.StackModel.{stack}
-use Rattle.read_agenda.proofs.Agenda.{agenda_reads}
+use Rattle.read_agenda.proofs.Turns.{agenda_reads}
 use Rattle.read_tree.proofs.Buffer.{Held, bare, due_low, pushed_held}
 use Rattle.read_tree.proofs.Follows.{Sim, Follows, idle, goes, skips, ends, turn_follows}
 

@@ -11,7 +11,7 @@ ghost use Rattle.read_tree.specs.MachineModel.{First, due_at, row_written, row_c
 
 mod reader;
 
-use read_agenda::Due;
+use read_agenda::{Agenda, Due};
 use read_line::Line;
 use reader::Reader;
 use spec_text::{Refusal, Refused, Sort};
@@ -86,36 +86,26 @@ fn rest(text: &[u8], work: &mut [u32], first: Line) -> Result<Tree, Refused>
     requires is_first { First text.now first }
     ensures { Answers text.now (ended (after first.count0 first.count1 (rest_at text.now first.next 2))) work.new result }
 {
-    let globals = first.count0 as usize;
-    let stmts = first.count1 as usize;
     read_names::clear(work);
-    let top = read_agenda::push(
-        work,
-        0,
-        Due {
-            sort: Sort::Stmt,
-            levels: DEEPEST,
-            count: stmts,
-        },
-    );
-    let top = read_agenda::push(
-        work,
-        top,
-        Due {
-            sort: Sort::Global,
-            levels: DEEPEST,
-            count: globals,
-        },
-    );
+    let mut agenda = Agenda { work, top: 0 };
+    agenda.push(Due {
+        sort: Sort::Stmt,
+        levels: DEEPEST,
+        count: first.count1 as usize,
+    });
+    agenda.push(Due {
+        sort: Sort::Global,
+        levels: DEEPEST,
+        count: first.count0 as usize,
+    });
     let mut reader = Reader {
         text,
-        work,
+        agenda: &mut agenda,
         at: first.next,
         rows: 0,
-        top,
     };
     reader.run()?;
-    reader.answer(globals)
+    reader.answer(first.count0 as usize)
 }
 
 // Reads a tree text: any bytes, any work buffer, whatever it holds.

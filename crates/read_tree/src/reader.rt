@@ -2,25 +2,23 @@
 ghost use Rattle.std.specs.Prelude.{◌≡◌, ◌+◌, ◌-◌, ◌*◌, ◌<◌, ◌≤◌, length};
 
 use crate::{Tree, close, line_due, write_row};
-use read_agenda::{Due, Entry};
+use read_agenda::{Agenda, Due, Entry};
 use spec_text::{Refusal, Refused};
 
-// The text, the work buffer, and how far the reading is: the offset of the next line, the rows written, and the
-// entries of the agenda.
+// The text, the agenda, which has the work buffer, the offset of the next line, and how many rows are written.
 #[derive(Drop)]
-pub struct Reader<'a> {
-    pub text: &'a [u8],
-    pub work: &'a mut [u32],
+pub struct Reader<'t, 'g, 'w> {
+    pub text: &'t [u8],
+    pub agenda: &'g mut Agenda<'w>,
     pub at: usize,
     pub rows: usize,
-    pub top: usize,
     ghost inside: { at ≤ length text.now },
     ghost short: { length text.now ≤ 65536 },
     ghost few: { rows ≤ 4096 },
-    ghost due: { top + 8 * (length text.now - at) ≤ 8 * length text.now + 8 },
+    ghost due: { agenda.now.top + 8 * (length text.now - at) ≤ 8 * length text.now + 8 },
 }
 
-impl<'a> Reader<'a> {
+impl<'t, 'g, 'w> Reader<'t, 'g, 'w> {
     ghost use Rattle.std.specs.Prelude.{Ok};
     ghost use Rattle.read_agenda.specs.Entries.{due_word, entry_word};
     ghost use Rattle.read_tree.specs.MachineModel.{taken, turn_by, answer_at};
@@ -31,7 +29,7 @@ impl<'a> Reader<'a> {
     fn on_top(&self) -> Option<Entry>
         ensures { IsNext (machine_of self.now) result }
     {
-        read_agenda::on_top(self.work, self.top)
+        self.agenda.on_top()
     }
 
     // Takes the next line, which is due by an entry on top.
@@ -39,19 +37,22 @@ impl<'a> Reader<'a> {
     fn take_line(&mut self, due: Due) -> Result<(), Refused>
         ensures { Moved self.old (taken self.old.text.now (due_word due) (machine_of self.old)) result self.new }
     {
-        let line = line_due(self.text, self.at, due.sort, self.rows + 2, due.levels)?;
-        write_row(self.text, self.work, self.rows, self.at, line);
-        let top = read_agenda::one_less(self.work, self.top, due);
+        let text = self.text;
+        let at = self.at;
+        let row = self.rows;
+        let line = line_due(text, at, due.sort, row + 2, due.levels)?;
+        self.at = line.next;
+        self.rows += 1;
+        let agenda = &mut *self.agenda;
+        write_row(text, agenda.work, row, at, line);
+        agenda.one_less(due);
         let children = read_words::children_of(
             line.kind,
             line.count0 as usize,
             line.count1 as usize,
             line.count2 as usize,
         );
-        let levels = due.levels.saturating_sub(1);
-        self.top = read_agenda::push_due(self.work, top, self.rows, children, levels);
-        self.at = line.next;
-        self.rows += 1;
+        agenda.push_due(row, children, due.levels.saturating_sub(1));
         Ok(())
     }
 
@@ -62,8 +63,10 @@ impl<'a> Reader<'a> {
         match entry {
             Entry::Due(due) => self.take_line(due),
             Entry::Close(row) => {
-                close(self.work, row, self.rows);
-                self.top = self.top.saturating_sub(1);
+                let rows = self.rows;
+                let agenda = &mut *self.agenda;
+                close(agenda.work, row, rows);
+                agenda.pop();
                 Ok(())
             }
         }

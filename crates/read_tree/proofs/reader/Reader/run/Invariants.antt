@@ -10,7 +10,8 @@ invariant-loop-entry l =
     record {
       led : (x : Result Machine Refused) → Turns l.initial.self.text.now (machine_of l.initial.self) x → Turns l.self.text.now (machine_of l.self) x;
       same_text : l.self.text.now ≡ l.initial.self.text.now;
-      same_buffer : l.self.work.ghost_name ≡ l.initial.self.work.ghost_name;
+      same_agenda : l.self.agenda.ghost_name ≡ l.initial.self.agenda.ghost_name;
+      same_buffer : l.self.agenda.now.work.ghost_name ≡ l.initial.self.agenda.now.work.ghost_name;
     }
 
 abbrev pub decreases-loop-entry : goal.decreases-loop-entry
