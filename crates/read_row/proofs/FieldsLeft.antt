@@ -70,7 +70,11 @@ from_offset text w i at n r e f g = rw (← e, ← f) (go r g)
         ap (drop n) (ap fields_of here ∙ first_at 0 (drop at text) ∙ sym (first_at at (drop at text))) ∙ drop-map (λ (p : Part). p.bytes) n (cut at (drop at text)).fields
 
 -- one of them is passed
-pub field_passed : (n : ℕ) (s t : Fields) (r : Option (Bor Bytes)) → 0 < n → YieldsFirstRef fields_left s r t → drop (n - 1) (fields_left t) ≡ drop n (fields_left s)
-field_passed zero s t r l h = absurd (omega arith)
-field_passed (suc n) s t None l h = let e : suc n - 1 ≡ n = omega arith in rw (h.0, h.1) (drop-nil (suc n - 1))
-field_passed (suc n) s t (Some x) l h = let e : suc n - 1 ≡ n = omega arith in rw (h, e) refl
+passed : (m : ℕ) (s t : Fields) (r : Option (Bor Bytes)) → YieldsFirstRef fields_left s r t → drop m (fields_left t) ≡ drop (suc m) (fields_left s)
+passed m s t None h = rw (h.0, h.1) (drop-nil m)
+passed m s t (Some x) h = rw h refl
+
+pub field_passed : (n k : ℕ) (s t : Fields) (r : Option (Bor Bytes)) → k < n → YieldsFirstRef fields_left s r t
+    → drop (n - (k + 1)) (fields_left t) ≡ drop (n - k) (fields_left s)
+field_passed n k s t r l h =
+    let e : suc (n - (k + 1)) ≡ n - k = omega arith in passed (n - (k + 1)) s t r h ∙ ap (λ i. drop i (fields_left s)) e

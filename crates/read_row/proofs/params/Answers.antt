@@ -1,5 +1,5 @@
 -- At the start the fields before the parameters are to be passed, and each turn passes one, if there is one.
-use Rattle.std.proofs.Common.{◌≡◌, ap, ◌∙◌, arith, ℕ, ◌-◌, ◌+◌}
+use Rattle.std.proofs.Common.{◌≡◌, ap, ◌∙◌, arith, ◌-◌}
 use Rattle.read_row.specs.RowModel.{before_params}
 use Rattle.read_row.proofs.FieldsLeft.{rest_from, from_offset, field_passed}
 use Rattle.read_row.proofs.params.Goals as goal
@@ -11,7 +11,4 @@ loop-init c =
     (n ∙ c.before_params-before.ensures ∙ ap before_params c.kind.ensures) (rest_from c.args.text.now c.offset.result c.get.result c.get.ensures.lookup.0)
 
 pub loop-preserved : goal.loop-preserved
-loop-preserved c =
-    let n : ℕ = c.before_params-before.result - c.loop.counter in
-    let e : n - 1 ≡ c.before_params-before.result - (c.loop.counter + 1) = omega arith in
-    rw (← e) (field_passed n c.loop.fields c.next.new.self c.next.result (omega arith) c.next.ensures.steps ∙ c.loop.invariant)
+loop-preserved c = field_passed c.before_params-before.result c.loop.counter c.loop.fields c.next.new.self c.next.result c.loop-test.true c.next.ensures.steps ∙ c.loop.invariant
