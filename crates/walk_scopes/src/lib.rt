@@ -36,6 +36,7 @@ pub struct ScopeStack {
 
 impl ScopeStack {
     // The module, with so many rows.
+    // Kept: the `requires` here and where a row is taken, since no usize is the row after the last that a usize holds.
     pub fn new(rows: usize) -> ScopeStack
         requires { rows < 4294967296 }
         ensures { result ≡ at_module rows }
