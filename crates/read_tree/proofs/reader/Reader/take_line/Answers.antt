@@ -1,4 +1,4 @@
--- The name of a line that is due, if it has one, starts in the text, and what is below it is few.
+-- The name of a line that is due, if it has one, starts in the text.
 use Rattle.std.proofs.Common.{arith, sym}
 use Rattle.read_tree.proofs.Bounds.{fresh}
 use Rattle.read_tree.proofs.reader.Reader.take_line.Goals as goal
