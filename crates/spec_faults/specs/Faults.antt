@@ -1,5 +1,5 @@
 -- Faults by position: the rules for reads, faults, the full report, the messages. No stack of scopes, and no walk.
-use Rattle.std.specs.Prelude.{ℕ, zero, suc, Bool, true, false, cond, not, ◌&&◌, ◌||◌, List, [], ◌∷◌, ◌++◌, eqb, leb, ltb, length}
+use Rattle.std.specs.Prelude.{ℕ, zero, suc, Bool, true, false, not, ◌&&◌, ◌||◌, List, [], ◌∷◌, ◌++◌, eqb, leb, ltb, length}
 use Rattle.std.specs.List.{list_any as any, list_all as all}
 pub use Rattle.std.specs.List.{filter as keep}
 use Prim.Native.String.{String}
