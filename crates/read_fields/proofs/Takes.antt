@@ -3,7 +3,7 @@
 use Rattle.std.proofs.Common.{◌≡◌, refl, sym, ap, ap₂, ◌∙◌, Bool, true, false, cond, not, ◌&&◌, true≢false, [], ◌∷◌, ℕ, ◌+◌, ◌-◌, ◌*◌, ◌≤◌, ◌<◌, arith, eqb, ltb, length, get_or, drop, get_or-drop, leb-true, le-leb, ltb-true, lt-ltb, eq-eqb, ne_eqb, ⊎_elim, Option, Some, None}
 use Rattle.std.proofs.lemmas.Option.{cond_some}
 use Rattle.std.proofs.lemmas.Bool.{cases_lt}
-use borrow.Author.Tests.{not-true}
+use Rattle.std.proofs.lemmas.Bool.{not-true}
 use Rattle.spec_text.specs.Bytes.{Bytes, same, all, is_digit, is_name_byte, is_name, is_number, decimal, value_of, leading_zero, longest_name}
 use Rattle.spec_text.proofs.Lists.{and_split}
 use Rattle.read_fields.specs.FieldsModel.{field, field_at, end_of, end_byte, past, past_byte, past_end, next_at, takes, field_from, number_from, name_from, hash_of, hash_from}

@@ -16,6 +16,7 @@ const LONGEST_NAME: usize = 63;
 const LONGEST_ZERO: usize = 1;
 
 // Where the next field starts, and whether there is one.
+// Kept: without the text, of which each Number, Name and Kind, and each Option of one, would have a slice more.
 #[derive(Clone, Copy, PartialEq, Eq)]
 pub struct Cursor {
     pub at: usize,
@@ -76,6 +77,7 @@ fn mixed(hash: usize, b: u8) -> usize
 }
 
 // The text from an offset on.
+// Kept: empty past the end, as `drop` in the definitions, and no Option: the callers would all make it empty again.
 fn rest(text: &[u8], at: usize) -> &[u8]
     ensures { result.now ≡ drop at text.now }
 {
@@ -90,6 +92,7 @@ fn first_end(text: &[u8]) -> Option<usize>
 }
 
 // The field at an offset.
+// Kept: no Option, since the definition has a field at each offset: past the end it is empty.
 #[tactic(auto, using(crate::proofs::Fields::field_found, crate::proofs::Fields::field_all))]
 pub fn field(text: &[u8], at: usize) -> &[u8]
     ensures { result.now ≡ field_at text.now at }
@@ -102,6 +105,7 @@ pub fn field(text: &[u8], at: usize) -> &[u8]
 }
 
 // The cursor after the byte at an offset, which ends a field.
+// Kept: not by `past`, which asks whether the byte ends a field: here it does, and there would be a None to get rid of.
 pub fn next(text: &[u8], end: usize) -> Cursor
     requires { end ≤ length text.now }
     ensures { result ≡ next_at text.now end }
@@ -117,17 +121,12 @@ fn past(b: u8, end: usize) -> Option<Cursor>
     requires { end < 18446744073709551615 }
     ensures { result ≡ past_byte b end }
 {
-    match b {
-        read_bytes::TAB => Some(Cursor {
-            at: end + 1,
-            more: true,
-        }),
-        read_bytes::LF => Some(Cursor {
-            at: end + 1,
-            more: false,
-        }),
-        _ => None,
-    }
+    let more = match b {
+        read_bytes::TAB => true,
+        read_bytes::LF => false,
+        _ => return None,
+    };
+    Some(Cursor { at: end + 1, more })
 }
 
 // The cursor past the byte at an offset, where the text has one there.
@@ -158,6 +157,8 @@ impl Cursor {
     }
 
     // A number, written with no leading zero.
+    // Kept: a cast, which cuts nothing, since value is at most largest: with `checked_mul` and `checked_add` of a u32 lines
+    // take 4 % longer to read (2.44 ns a byte in place of 2.33).
     #[tactic(auto, using(crate::proofs::Takes::number_broken, crate::proofs::Takes::number_above, crate::proofs::Fields::run_here))]
     pub fn number(self, text: &[u8], largest: u32) -> Option<Number>
         ensures { result ≡ number_from largest text.now self }

@@ -1,6 +1,6 @@
 -- What holds of each number within bounds holds of any: one by one.
 use Rattle.std.proofs.Common.{◌≡◌, refl, sym, subst, Bool, true, false, ℕ, zero, suc, ◌+◌, ◌≤◌, ◌<◌, arith, eqb, eqb-true}
-use borrow.Author.Tests.{eqb-false}
+use Rattle.std.proofs.lemmas.Bool.{eqb-false}
 
 -- what holds of each of n numbers, from one on
 abbrev pub From : (ℕ → Type 0) → ℕ → ℕ → Type 0

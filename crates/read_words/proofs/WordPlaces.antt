@@ -7,6 +7,7 @@ use Rattle.spec_text.specs.Bytes.{Bytes, Part, same}
 use Rattle.spec_text.specs.Lines.{Form, Word, words, sort_of, Parsed, well_formed, parsed, line_of}
 use Rattle.spec_text.proofs.Lists.{next_of, at_next, test_at}
 use Rattle.read_words.specs.WordsModel.{place, is_word, no_word, of_word, shape_of, sort_in}
+use Rattle.read_words.specs.ChildrenModel.{children_of, children_by}
 use Rattle.spec_text.specs.SortsModel.{sort_number}
 
 -- the word in row k
@@ -41,9 +42,16 @@ pub some_bytes : (k : ℕ) → k < length words → 0 < length (word_at k).spell
 some_bytes k h = ltb-true 0 (length (word_at k).spelling) (test_at (λ (w : Word). ltb 0 (length w.spelling)) words k no_word refl h)
 
 -- past the last row there is no word
+no_word_past : (k : ℕ) → 29 ≤ k → no_word ≡ word_at k
+no_word_past k l = sym (get_or-eq_default words no_word l)
+
 pub shape_past : (k : ℕ) → 29 ≤ k → of_word no_word ≡ shape_of k
 unfolding shape_of
-shape_past k l = ap of_word (sym (get_or-eq_default words no_word l))
+shape_past k l = ap of_word (no_word_past k l)
+
+pub children_past : (k a b c : ℕ) → 29 ≤ k → children_of no_word.form a b c ≡ children_by k a b c
+unfolding children_by
+children_past k a b c l = ap (λ (w : Word). children_of w.form a b c) (no_word_past k l)
 
 -- the sort of a form has the number that the table says
 pub sort_in_number : (f : Form) → sort_number (sort_in f) ≡ sort_of f

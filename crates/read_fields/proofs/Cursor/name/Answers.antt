@@ -1,6 +1,6 @@
 -- Where the loop stops, the field is a name only if it ends there.
 use Rattle.std.proofs.Common.{◌≡◌, ap, ◌∙◌, sym, ℕ, ◌+◌, get_or, false, true}
-use borrow.Author.Tests.{not-false}
+use Rattle.std.proofs.lemmas.Bool.{not-false}
 use Rattle.spec_text.specs.Bytes.{is_name_byte}
 use Rattle.read_fields.specs.FieldsModel.{field_at, hash_from}
 use Rattle.read_fields.proofs.Fields.{name_bytes, field_more, run_more, hash_more}

@@ -1,6 +1,6 @@
 -- A value above the largest only grows; where the loop stops, the field is a number only if it ends there.
 use Rattle.std.proofs.Common.{◌≡◌, ap, ◌∙◌, sym, arith, ℕ, ◌+◌, ◌-◌, ◌*◌, ◌<◌, get_or, eqb-true, eq-eqb, le-ltb, false, true}
-use borrow.Author.Tests.{not-false}
+use Rattle.std.proofs.lemmas.Bool.{not-false}
 use Rattle.spec_text.specs.Bytes.{is_digit, decimal}
 use Rattle.read_fields.specs.FieldsModel.{field_at}
 use Rattle.read_fields.proofs.Fields.{clash, digits, field_more, run_more}
