@@ -1,6 +1,6 @@
 -- A read: the marks of its name and the flag of its row tell what the rules ask for, so that its slot is the kind of its fault. A name that a lambda
 -- is blamed for has its mark open up to the end of that lambda: later reads of it there leave no slot, and they are no faults anew.
-use Rattle.std.proofs.Common.{ℕ, zero, suc, ◌+◌, ◌≤◌, ◌<◌, max, arith, ◌≡◌, refl, sym, ap, ap₂, ◌∙◌, subst, Bool, true, false, cond, not, ◌&&◌, ◌||◌, true≢false, List, [], ◌∷◌, ◌++◌, eqb, ltb, length, get_or, lt-ltb, le-ltb, eq-eqb, ne_eqb}
+use Rattle.std.proofs.Common.{ℕ, suc, ◌+◌, ◌≤◌, ◌<◌, max, arith, ◌≡◌, refl, sym, ap, ap₂, ◌∙◌, subst, Bool, true, false, cond, not, ◌&&◌, ◌||◌, true≢false, List, [], ◌∷◌, ◌++◌, eqb, ltb, length, get_or, lt-ltb, le-ltb, eq-eqb, ne_eqb}
 use Rattle.std.proofs.lemmas.Bool.{false≢true}
 use Rattle.spec_text.specs.Bytes.{Bytes, mem, same}
 use Rattle.spec_text.specs.Tree.{Line, var}
