@@ -20,9 +20,6 @@ unfolding stored
 stored_before [] j w i l = refl
 stored_before (e ∷ es) j w i l = stored_before es (j + 1) (put w (entry_base + j) e) i (omega arith) ∙ get_or-set_other w (entry_base + j) i _ 0 (λ q. omega arith)
 
-same_after : (es : List ℕ) (j : ℕ) (w : List ℕ) {z : List ℕ} → z ≡ stored es j w → Same w z
-same_after es j w e = subst (Same w) (sym e) (λ i l. stored_before es j w i (omega arith))
-
 module _ (w v : List ℕ) (s : Same w v) where
   slot_same : (i : ℕ) → slot_in v i ≡ slot_in w i
   slot_same i = go (ltb i rows_most) refl
@@ -78,18 +75,25 @@ listed_as {a} {b} e h = subst (λ es. Listed a es b) e h
 
 listed_nothing : (a : Entries) → Listed a [] a
 unfolding stored
-listed_nothing a = record { written = refl; count = omega arith; same_buffer = refl }
+listed_nothing a = record { same_rows = λ i l. refl; listed = λ l. (refl, omega arith); same_buffer = refl }
 
 pub listed_then : {a b c : Entries} {es fs : List ℕ} → Listed a es b → Listed b fs c → Listed a (es ++ fs) c
-listed_then {a} {es} {fs} h k = record {
-  written = k.written ∙ ap₂ (stored fs) h.count h.written ∙ sym (stored_append es fs a.count a.work.now);
-  count = omega (arith, h.count, k.count, length-append es fs);
+listed_then {a} {b} {c} {es} {fs} h k = record {
+  same_rows = λ i l. k.same_rows i l ∙ h.same_rows i l;
+  listed = go;
   same_buffer = k.same_buffer ∙ h.same_buffer;
 }
+  where
+    go : a.count + length (es ++ fs) < 18_446_744_073_709_551_616 → (c.work.now ≡ stored (es ++ fs) a.count a.work.now) × (c.count ≡ a.count + length (es ++ fs))
+    go l =
+        let m = length-append es fs in
+        let f = h.listed (omega (arith, m, l)) in
+        let g = k.listed (omega (arith, m, l, f.1)) in
+        (g.0 ∙ ap₂ (stored fs) f.1 f.0 ∙ sym (stored_append es fs a.count a.work.now), omega (arith, m, f.1, g.1))
 
 -- the rows and the slots stay
 pub listed_same : {a b : Entries} {es : List ℕ} → Listed a es b → Same a.work.now b.work.now
-listed_same {a} {es} h = same_after es a.count a.work.now h.written
+listed_same h = h.same_rows
 
 -- from here what is left gives the whole list
 pub record Left (rest : List ℕ) (here : Entries) (all : List ℕ) (start : Entries) : Type 0 where

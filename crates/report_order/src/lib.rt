@@ -1,7 +1,7 @@
 // Lists the faults in the report's order, from the slots: at each row those that have it as their place.
 #![tactic(auto)]
 
-ghost use Rattle.std.specs.Prelude.{◌≡◌, ◌||◌, ◌<◌, ◌≤◌, eqb, length};
+ghost use Rattle.std.specs.Prelude.{◌≡◌, ◌||◌, ◌%◌, ◌<◌, ◌≤◌, eqb, length};
 ghost use Rattle.spec_faults.specs.Faults.{capture};
 ghost use Rattle.spec_faults.specs.Kinds.{kind_number};
 ghost use Rattle.work_marks.specs.MarksModel.{slot_at};
@@ -29,11 +29,13 @@ pub struct Entry {
 }
 
 impl Entry {
+    // 32 bits of it are written, so that the sum may wrap.
     fn number(self) -> usize
-        requires { (self.of ≤ 16384) × (self.row ≤ 16384) }
-        ensures { result ≡ entry (kind_number self.kind) self.of self.row }
+        ensures { result % 4294967296 ≡ entry (kind_number self.kind) self.of self.row % 4294967296 }
     {
-        ENTRY_KINDS * self.kind.number() + ENTRY_ROWS * self.of + self.row
+        (ENTRY_KINDS * self.kind.number())
+            .wrapping_add(ENTRY_ROWS.wrapping_mul(self.of))
+            .wrapping_add(self.row)
     }
 
     fn of_number(number: usize) -> Entry
@@ -93,6 +95,7 @@ pub fn any_fault(work: &[u32], first: usize, rows: usize) -> bool
 }
 
 // Lists the faults of the rows from `first` up to `rows`, and answers how many there are.
+#[tactic(auto, using(crate::proofs::AtRow::entries_few))]
 pub fn list_faults(work: &mut [u32], first: usize, rows: usize) -> usize
     requires { rows ≤ 4096 }
     ensures { (work.new ≡ stored (entries work.old first rows) 0 work.old) × (result ≡ length (entries work.old first rows)) }
