@@ -41,7 +41,7 @@ field_cons s i l h = rw (add-one, drop-cons s i 0) (rw (h, field))
 pub field_more : {p : ℕ → Bool} → Class p → (s : Bytes) (i : ℕ) → p (get_or s i 0) ≡ true → field_at s i ≡ get_or s i 0 ∷ field_at s (i + 1)
 field_more {p} k s i h = field_cons s i (inside p k.none s i h) (no_end k (get_or s i 0) h)
 
-pub field_end : (s : Bytes) (i : ℕ) → is_end (get_or s i 0) ≡ true → field_at s i ≡ []
+field_end : (s : Bytes) (i : ℕ) → is_end (get_or s i 0) ≡ true → field_at s i ≡ []
 unfolding field
 field_end s i h =
     let l : i < length s = inside is_end refl s i h in

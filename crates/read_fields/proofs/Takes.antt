@@ -45,7 +45,7 @@ pub field_taken : (w s : Bytes) (c : Cursor) → c.more ≡ true → same (field
 field_taken w s c m e = ap (λ q. cond q (Some (past s c.at)) None) (sym (ap₂ ◌&&◌ m (ap (λ q. q && is_end (end_byte s c.at)) e)))
 
 -- ---- a number and a name as records
-pub record IsNumber (largest : ℕ) (x : Bytes) : Type 0 where
+record IsNumber (largest : ℕ) (x : Bytes) : Type 0 where
   pub some : 0 < length x
   pub each : all is_digit x ≡ true
   pub led : leading_zero x ≡ false
@@ -61,7 +61,7 @@ number_is largest x e =
 is_number_lem : (largest : ℕ) (x : Bytes) → IsNumber largest x → is_number largest x ≡ true
 is_number_lem largest x k = ap₂ ◌&&◌ (lt-ltb _ _ k.some) (ap₂ ◌&&◌ k.each (ap₂ ◌&&◌ (ap not k.led) (le-leb _ _ k.small)))
 
-pub record IsName (x : Bytes) : Type 0 where
+record IsName (x : Bytes) : Type 0 where
   pub some : 0 < length x
   pub first : is_digit (get_or x 0 0) ≡ false
   pub each : all is_name_byte x ≡ true

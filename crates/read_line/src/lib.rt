@@ -41,6 +41,7 @@ pub struct Params {
 
 // A number of the line's span or a count, where one is due.
 // It is inlined, as the next two are, so that no result passes through memory.
+// Kept: asked of each number: one `if` around the two of a span would hand on three values, start, end and cursor, twice.
 #[tactic(auto, unfolding(crate::specs::StepsModel::number_if))]
 #[inline(always)]
 fn number_if(due: bool, largest: u32, text: &[u8], c: Cursor) -> Option<Number>
@@ -72,6 +73,8 @@ fn name_if(due: bool, text: &[u8], c: Cursor) -> Option<Name>
 }
 
 // All the fields that are left, as names, where parameters are due.
+// Kept: a `while`, which stops at the end of the line or at what is no name: a fold over an iterator of the fields that
+// are left would have the same two in its state, the count and the cursor.
 #[tactic(auto, using(crate::proofs::Tail::turn, crate::proofs::Tail::none_here, crate::proofs::Tail::out))]
 #[inline(always)]
 fn params_if(due: bool, text: &[u8], c: Cursor) -> Option<Params>

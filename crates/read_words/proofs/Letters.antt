@@ -9,7 +9,7 @@ use Rattle.read_fields.specs.FieldsModel.{field_at, past, takes}
 use Rattle.read_fields.specs.declared.Cursor.{Cursor}
 use Rattle.read_fields.proofs.Fields.{field_first}
 use Rattle.read_fields.proofs.Takes.{takes_facts, facts_take}
-use Rattle.read_words.specs.WordsModel.{place, is_word, no_word, kind_from, word_from}
+use Rattle.read_words.specs.WordsModel.{place, is_word, no_word, kind_from}
 use Rattle.read_words.specs.declared.Kind.{Kind}
 use Rattle.read_words.proofs.Keys.{among, Unlike, unlike}
 use Rattle.read_words.proofs.WordPlaces.{word_at, some_bytes}
@@ -24,6 +24,10 @@ is n text c = takes (λ x. same x (spelt n)) text c
 -- the same field, by another test
 takes_too : (p q : Bytes → Bool) (text : Bytes) (c : Cursor) → takes p text c ≡ true → q (field_at text c.at) ≡ true → takes q text c ≡ true
 takes_too p q text c e h = let f = takes_facts p text c e in facts_take q text c (record { more = f.more; right = h; ended = f.ended })
+
+-- kind n, where the field has the bytes of the word
+abbrev pub word_from : ℕ → Bytes → Bytes → Cursor → Option Kind
+word_from n word text c = cond (takes (λ x. same x word) text c) (Some (record { kind = n; next = past text c.at })) None
 
 -- ---- words tried one after the other: the rows of those words, the last one first, and the kind that is found
 pub data Tried (text : Bytes) (c : Cursor) : List ℕ → Option Kind → Type 0 where

@@ -4,11 +4,10 @@ use Rattle.std.proofs.Common.{◌≡◌, refl, sym, ap, Bool, true, false, cond,
 use Rattle.std.proofs.Math.ListN.{get_elem?, get_or-eq_default}
 use Rattle.std.proofs.Math.Option.{Option, none, some}
 use Rattle.spec_text.specs.Bytes.{Bytes, Part, same}
-use Rattle.spec_text.specs.Lines.{Form, Word, words, sort_of, Parsed, well_formed, parsed, line_of}
+use Rattle.spec_text.specs.Lines.{Word, words, Parsed, well_formed, parsed, line_of}
 use Rattle.spec_text.proofs.Lists.{next_of, at_next, test_at}
-use Rattle.read_words.specs.WordsModel.{place, is_word, no_word, of_word, shape_of, sort_in}
+use Rattle.read_words.specs.WordsModel.{place, is_word, no_word, of_word, shape_of}
 use Rattle.read_words.specs.ChildrenModel.{children_of, children_by}
-use Rattle.spec_text.specs.SortsModel.{sort_number}
 
 -- the word in row k
 abbrev pub word_at : ℕ → Word
@@ -52,13 +51,3 @@ shape_past k l = ap of_word (no_word_past k l)
 pub children_past : (k a b c : ℕ) → 29 ≤ k → children_of no_word.form a b c ≡ children_by k a b c
 unfolding children_by
 children_past k a b c l = ap (λ (w : Word). children_of w.form a b c) (no_word_past k l)
-
--- the sort of a form has the number that the table says
-pub sort_in_number : (f : Form) → sort_number (sort_in f) ≡ sort_of f
-sort_in_number Form.tree = refl
-sort_in_number Form.global = refl
-sort_in_number Form.elif = refl
-sort_in_number Form.method = refl
-sort_in_number Form.attr = refl
-sort_in_number (Form.stmt f) = refl
-sort_in_number (Form.expr f) = refl

@@ -21,15 +21,11 @@ is_word x = ltb (place 0 words x) (length words)
 unfoldable pub kind_from : Bytes → Cursor → Option Kind
 kind_from text c = cond (takes is_word text c) (Some (record { kind = place 0 words (field_at text c.at); next = past text c.at })) None
 
--- kind n, where the field has the bytes of the word
-abbrev pub word_from : ℕ → Bytes → Bytes → Cursor → Option Kind
-word_from n word text c = cond (takes (λ x. same x word) text c) (Some (record { kind = n; next = past text c.at })) None
-
 -- ---- the shape of its line, by the table
 abbrev pub no_word : Word
 no_word = record { spelling = []; spanned = false; named = false; counts = 0; params = false; form = Form.tree }
 
--- the sort of a form, numbered by `sort_of`
+-- the sort of a form: `sort_of`, as an enum
 abbrev pub sort_in : Form → Sort
 sort_in Form.tree = Sorts.Tree
 sort_in Form.global = Sorts.Global
