@@ -1,4 +1,4 @@
--- The definitions by their tests: what is listed at a row, what is around the rows below it, how many entries a row has, and one row more.
+-- What is listed at a row by the tests of the code, one row more, and how many entries rows have.
 use Rattle.std.proofs.Common.{ℕ, zero, suc, ◌+◌, ◌*◌, ◌-◌, ◌≤◌, ◌<◌, arith, ◌≡◌, ap, Bool, true, false, cond, ◌||◌, List, [], ◌∷◌, ◌++◌, append-nil, eqb, length, length-append, ne_eqb, le-leb}
 use Rattle.std.proofs.lemmas.Bool.{lt-leb}
 use Rattle.spec_faults.specs.Faults.{capture}
@@ -7,7 +7,7 @@ use Rattle.report_order.specs.declared.Around.{Around}
 use Rattle.report_order.specs.declared.list.Entries.{Entries}
 use Rattle.report_order.specs.ListModel.{Listed}
 use Rattle.report_order.specs.OrderModel.{entry, slot_in, captured, captures, called, itself, new_lambda, around, placed_at, entries_from}
-use Rattle.report_order.proofs.Stored.{captures_same, called_same, entries_same, listed_then, listed_same, Left, left_more, left_none}
+use Rattle.report_order.proofs.Stored.{captures_same, called_same, entries_same, listed_then, Left, left_more, left_none}
 
 -- ---- one row more
 module _ (here : Entries) (p i stop : ℕ) {all : List ℕ} {start : Entries} (left : Left (captures here.work.now p (stop - i) i) here all start) where
@@ -16,7 +16,7 @@ module _ (here : Entries) (p i stop : ℕ) {all : List ℕ} {start : Entries} (l
   captures_more l {next} h =
       let w : List ℕ = here.work.now in
       let n : stop - i ≡ suc (stop - (i + 1)) = omega arith in
-      rw (captures_same w next.work.now (listed_same h) p (stop - (i + 1)) (i + 1))
+      rw (captures_same w next.work.now h.same_rows p (stop - (i + 1)) (i + 1))
       (left_more (captured w p i) (captures w p (stop - (i + 1)) (i + 1)) (ap (λ n. captures w p n i) n) h left)
 
   pub captures_end : stop ≤ i → Listed start all here
@@ -30,7 +30,7 @@ module _ (here : Entries) (x : Around) (p stop : ℕ) {all : List ℕ} {start : 
   entries_more l m {y} {next} e h =
       let w : List ℕ = here.work.now in
       let n : stop - p ≡ suc (stop - (p + 1)) = omega arith in
-      rw (e, entries_same w next.work.now (listed_same h) (around w x p) (stop - (p + 1)) (p + 1) (omega arith))
+      rw (e, entries_same w next.work.now h.same_rows (around w x p) (stop - (p + 1)) (p + 1) (omega arith))
       (left_more (placed_at w x p) (entries_from w (around w x p) (stop - (p + 1)) (p + 1)) (ap (λ n. entries_from w x n p) n) h left)
 
   pub entries_end : stop ≤ p → Listed start all here
@@ -93,18 +93,18 @@ module _ {a b : Entries} (x : Around) (p : ℕ) {y : Around} (is : y ≡ around 
         ← is,
         append-nil (captures a.work.now p (lines_below a.work.now p) (p + 1)),
         ← n,
-        ← captures_same a.work.now b.work.now (listed_same own) p (stop - (p + 1)) (p + 1),
+        ← captures_same a.work.now b.work.now own.same_rows p (stop - (p + 1)) (p + 1),
       )
       (listed_then own h)
 
   pub row_inner : kind_at a.work.now p ≡ 28 → p < x.lambda → Listed a (placed_at a.work.now x p) b
   unfolding placed_at
-  row_inner e l = rw (e, lt-leb x.lambda p l, ← is, append-nil) own
+  row_inner e l = rw (e, lt-leb x.lambda p l, ← is, append-nil (itself a.work.now y.class p)) own
 
   -- of a call, and of a row of another kind
   pub row_call : kind_at a.work.now p ≡ 21 → {c : Entries} → Listed b (called b.work.now p) c → Listed a (placed_at a.work.now x p) c
   unfolding placed_at
-  row_call e h = rw (e, ← is, ← called_same a.work.now b.work.now (listed_same own) p) (listed_then own h)
+  row_call e h = rw (e, ← is, ← called_same a.work.now b.work.now own.same_rows p) (listed_then own h)
 
   pub row_other : (kind_at a.work.now p ≡ 28 → ⊥) → (kind_at a.work.now p ≡ 21 → ⊥) → Listed a (placed_at a.work.now x p) b
   unfolding placed_at

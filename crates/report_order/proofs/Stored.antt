@@ -91,10 +91,6 @@ listed_then {a} {b} {c} {es} {fs} h k = record {
         let g = k.listed (omega (arith, m, l, f.1)) in
         (g.0 ∙ ap₂ (stored fs) f.1 f.0 ∙ sym (stored_append es fs a.count a.work.now), omega (arith, m, f.1, g.1))
 
--- the rows and the slots stay
-pub listed_same : {a b : Entries} {es : List ℕ} → Listed a es b → Same a.work.now b.work.now
-listed_same h = h.same_rows
-
 -- from here what is left gives the whole list
 pub record Left (rest : List ℕ) (here : Entries) (all : List ℕ) (start : Entries) : Type 0 where
   pub so : (b : Entries) → Listed here rest b → Listed start all b

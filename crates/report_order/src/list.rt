@@ -10,6 +10,7 @@ use spec_text::line_kind;
 use work_rows::ROWS_MOST;
 
 // So many entries, in this buffer. Those that it has no room for are counted too.
+// A method that writes takes the buffer as `work` first, also to read.
 #[derive(Drop)]
 pub struct Entries<'a> {
     pub work: &'a mut [u32],
@@ -48,7 +49,8 @@ impl<'a> Entries<'a> {
         }
     }
 
-    // Writes one entry more.
+    // Writes one entry more, if there is room. The count stays at the last number that a usize holds: no report has as
+    // many entries.
     #[tactic(auto, unfolding(crate::specs::OrderModel::stored))]
     fn add(&mut self, e: Entry)
         ensures { Listed self.old (entry (kind_number e.kind) e.of e.row ∷ []) self.new }
