@@ -32,7 +32,7 @@ fn answer<R: Read, W: Write>(
 }
 
 // The same with buffers of its own.
-// Kept: tried as one function, and the proof did not close: the check ran out of stack over arrays of this size.
+// Kept: tried as one function, and the proof did not close: over arrays of this size the check did not end in 170 seconds.
 fn run<R: Read, W: Write>(from: &mut R, to: &mut W) -> io::Result<()>
     ensures { OnOk result (IfSome (R.remaining from.old) (λ bytes. Appends (W.contents to.old) (W.contents to.new) (printed bytes))) }
 {

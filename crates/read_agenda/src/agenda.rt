@@ -17,17 +17,7 @@ const AGENDA_BASE: usize = 12288;
 fn is_leaf(children: Children) -> bool
     ensures { result ≡ is_leaf children }
 {
-    matches!(
-        children,
-        Children {
-            exprs: 0,
-            stmts: 0,
-            elifs: 0,
-            others: 0,
-            methods: 0,
-            attrs: 0,
-        }
-    )
+    children == Children::default()
 }
 
 // The agenda: so many entries, in this buffer.

@@ -29,10 +29,6 @@ start_at at = record { at = at; more = true }
 abbrev pub past : Bytes → ℕ → Cursor
 past text at = record { at = end_of text at + 1; more = eqb (end_byte text at) 9 }
 
--- the cursor after the byte at an offset, which ends a field
-abbrev pub next_at : Bytes → ℕ → Cursor
-next_at text end = record { at = end + 1; more = eqb (get_or text end 0) 9 }
-
 -- the cursor past the byte b at an offset, which has to be a tab or LF
 abbrev pub past_byte : ℕ → ℕ → Option Cursor
 past_byte b i = cond (is_end b) (Some (record { at = i + 1; more = eqb b 9 })) None

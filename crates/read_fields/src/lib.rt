@@ -2,10 +2,10 @@
 // something else.
 #![tactic(auto)]
 
-ghost use Rattle.std.specs.Prelude.{◌≡◌, ◌<◌, ◌≤◌, length, drop, position};
+ghost use Rattle.std.specs.Prelude.{◌≡◌, ◌<◌, drop, position};
 ghost use Rattle.spec_text.specs.Bytes.{same};
 ghost use Rattle.read_bytes.specs.BytesModel.{is_end};
-ghost use Rattle.read_fields.specs.FieldsModel.{next_at, field_at, start_at, field_from, number_from, hash_of, name_from, mix, end_from, past_byte, past_end};
+ghost use Rattle.read_fields.specs.FieldsModel.{field_at, start_at, field_from, number_from, hash_of, name_from, mix, end_from, past_byte, past_end};
 
 use read_bytes::NamePart;
 
@@ -101,18 +101,6 @@ pub fn field(text: &[u8], at: usize) -> &[u8]
     match first_end(rest) {
         Some(len) => &rest[..len],
         None => rest,
-    }
-}
-
-// The cursor after the byte at an offset, which ends a field.
-// Kept: not by `past`, which asks whether the byte ends a field: here it does, and there would be a None to get rid of.
-pub fn next(text: &[u8], end: usize) -> Cursor
-    requires { end ≤ length text.now }
-    ensures { result ≡ next_at text.now end }
-{
-    Cursor {
-        at: end + 1,
-        more: read_bytes::byte_at(text, end) == read_bytes::TAB,
     }
 }
 

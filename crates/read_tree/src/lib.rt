@@ -58,7 +58,6 @@ fn line_due(text: &[u8], at: usize, sort: Sort, n: usize, levels: usize) -> Resu
 // Writes row i: its kind, and its name or where its line starts.
 #[tactic(auto, unfolding(crate::specs::MachineModel::row_written))]
 fn write_row(text: &[u8], work: &mut [u32], i: usize, at: usize, line: Line)
-    requires { (i ≤ 4096) × ((line.name.len ≡ 0 → ⊥) → line.name.offset < 4294967296) }
     ensures { work.new ≡ row_written text.now i at line work.old }
 {
     work_rows::put(work, i, line.kind);

@@ -17,7 +17,7 @@ use work_marks::Own;
 const SELF: &[u8] = b"self";
 
 // What an expression is read for.
-#[derive(Clone, Copy)]
+#[derive(Clone, Copy, PartialEq, Eq)]
 pub enum Use {
     Value,
     Callee,

@@ -7,7 +7,7 @@
 // on any numbers.
 #![tactic(auto)]
 
-ghost use Rattle.std.specs.Prelude.{◌≡◌, ◌<◌, ◌≤◌, false, length};
+ghost use Rattle.std.specs.Prelude.{◌≡◌, ◌<◌, ◌≤◌, false};
 ghost use Rattle.walk_scopes.specs.ScopesModel.{scope_of, top_of};
 ghost use Rattle.walk_judge.specs.JudgeModel.{is_called};
 ghost use Rattle.walk_tree.specs.WalkModel.{over, next_target, method_at, head_at, begun_block, block_at, assign_at};
@@ -272,7 +272,7 @@ impl<'a> Walker<'a> {
 // or 0.
 #[tactic(auto, unfolding(crate::specs::WalkModel::walked))]
 pub fn walk(text: &[u8], work: &mut [u32], globals: usize, rows: usize)
-    requires { (rows ≤ 4096) × (16384 ≤ length work.old) }
+    requires { rows ≤ 4096 }
     ensures { work.new ≡ walked text.now globals rows work.old }
 {
     let stack = ScopeStack::new(rows);
