@@ -145,8 +145,8 @@ impl Cursor {
     }
 
     // A number, written with no leading zero.
-    // Kept: a cast, which cuts nothing, since value is at most largest: with `checked_mul` and `checked_add` of a u32 lines
-    // take 4 % longer to read (2.44 ns a byte in place of 2.33).
+    // Kept: a cast, which cuts nothing, since value is at most largest: with `checked_mul` and `checked_add` of a u32
+    // lines take 4 % longer to read (2.44 ns a byte in place of 2.33).
     #[tactic(auto, using(crate::proofs::Takes::number_broken, crate::proofs::Takes::number_above, crate::proofs::Fields::run_here))]
     pub fn number(self, text: &[u8], largest: u32) -> Option<Number>
         ensures { result ≡ number_from largest text.now self }

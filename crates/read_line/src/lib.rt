@@ -41,7 +41,7 @@ pub struct Params {
 
 // A number of the line's span or a count, where one is due.
 // It is inlined, as the next two are, so that no result passes through memory.
-// Kept: asked of each number: one `if` around the two of a span would hand on three values, start, end and cursor, twice.
+// Kept: asked of each number: one `if` for the two of a span would hand on start, end and cursor from both its ways.
 #[tactic(auto, unfolding(crate::specs::StepsModel::number_if))]
 #[inline(always)]
 fn number_if(due: bool, largest: u32, text: &[u8], c: Cursor) -> Option<Number>

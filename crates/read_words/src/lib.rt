@@ -37,8 +37,8 @@ pub struct Children {
 }
 
 // The kind of a line by its first field. The first byte says which words it can be.
-// Kept: not by `position` in a table of the words, with which texts take a third longer to read (5.26 ns a byte in place
-// of 3.94), and not by a `match` on the field, whose proof has a goal for each of 106 ways to be no word, half of them open.
+// Kept: no table of the words with `position`: texts take a third longer to read (5.26 ns a byte in place of 3.94).
+// And no `match` on the field: its proof has a goal for each of 106 ways to be no word, half of them left open.
 pub fn kind_of(text: &[u8], c: Cursor) -> Option<Kind>
     ensures { result ≡ kind_from text.now c }
 {
