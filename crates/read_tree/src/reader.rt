@@ -73,7 +73,6 @@ impl<'t, 'g, 'w> Reader<'t, 'g, 'w> {
     }
 
     // Turn after turn, until nothing is due.
-    // Kept: the loop counts no index: it goes on while something is due, which each turn changes.
     #[tactic(auto, unfolding(crate::specs::MachineModel::turn_of))]
     pub fn run(&mut self) -> Result<(), Refused>
         ensures { Ran self.old result self.new }

@@ -125,6 +125,7 @@ pub fn shape_of(kind: usize) -> Shape
 }
 
 // The lines due below a line of a kind, by its counts.
+// Kept: a bound on a, since twice as many lines are due below a dict, and b and c are any numbers.
 #[tactic(auto, unfolding(crate::specs::ChildrenModel::children_by))]
 pub fn children_of(kind: usize, a: usize, b: usize, c: usize) -> Children
     requires { a < 4294967296 }

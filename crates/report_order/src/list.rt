@@ -11,6 +11,7 @@ use work_rows::ROWS_MOST;
 
 // So many entries, in this buffer. Those that it has no room for are counted too.
 // A method that writes takes the buffer as `work` first, also to read.
+// Kept: `p < 4096` where the row after row p is asked for, and no invariant, since row p is no part of the list.
 #[derive(Drop)]
 pub struct Entries<'a> {
     pub work: &'a mut [u32],
