@@ -1,12 +1,13 @@
 // The record of a listed fault: seven numbers.
 #![tactic(auto)]
 
-ghost use Rattle.std.specs.Prelude.{◌≡◌, ◌%◌, ◌++◌, length, take, drop};
+ghost use Rattle.std.specs.Prelude.{◌≡◌, ◌++◌, length, take, drop};
 ghost use Rattle.report_records.specs.RecordsModel.{record_of, numbers32};
 
 use read_bytes::NamePart;
 use report_order::Entry;
 use spec_faults::FaultKind;
+use work_rows::cut;
 
 // How many numbers a record has.
 pub const RECORD: usize = 7;
@@ -19,14 +20,6 @@ pub struct Record {
     pub end: u32,
     pub name: NamePart,
     pub class: NamePart,
-}
-
-// 32 bits of a number.
-// Kept: the remainder, since the check wants of `n as u32` that nothing is lost, and takes no cast that cuts.
-pub fn cut(n: usize) -> u32
-    ensures { result ≡ n % 4294967296 }
-{
-    (n % 4294967296) as u32
 }
 
 // The record of an entry.

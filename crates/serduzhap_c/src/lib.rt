@@ -8,7 +8,7 @@ ghost use Rattle.spec_answers.specs.Answers.{check, over, report, message, name}
 ghost use Rattle.report_records.specs.RecordsModel.{cut32};
 ghost use Rattle.serduzhap_c.specs.Numbers.{answer_of, part_answer, version};
 
-use report_records::cut;
+use work_rows::cut;
 
 // The first number of an answer that is neither a refusal nor a fault.
 // Kept: constants and no enum, since C is handed numbers.

@@ -39,14 +39,21 @@ pub fn get(work: &[u32], i: usize) -> usize
     work.get(i).copied().unwrap_or(0) as usize
 }
 
+// 32 bits of a number.
+// Kept: the remainder, since the check wants of `n as u32` that nothing is lost, and takes no cast that cuts.
+pub fn cut(n: usize) -> u32
+    ensures { result ≡ n % 4294967296 }
+{
+    (n % 4294967296) as u32
+}
+
 // A number at i, if there is room; 32 bits of it.
-// Kept: through `get_mut` of a slice a proof learns the length of what is written and none of its numbers. And `v as u32`
-// has to lose nothing: so it is cut before.
+// Kept: through `get_mut` of a slice a proof learns the length of what is written and none of its numbers.
 pub fn put(work: &mut [u32], i: usize, v: usize)
     ensures { work.new ≡ put work.old i v }
 {
     if i < work.len() {
-        work[i] = (v % 4294967296) as u32;
+        work[i] = cut(v);
     }
 }
 
