@@ -15,11 +15,6 @@ abbrev pub entry_word : Entry → ℕ
 entry_word (E.Due d) = due_word d
 entry_word (E.Close i) = close_word i
 
--- an entry whose number can be computed
-abbrev pub EntryFits : Entry → Type 0
-EntryFits (E.Due d) = Unit {0}
-EntryFits (E.Close i) = i < 4_294_967_296
-
 -- the entry of a number, whatever the number is
 abbrev pub IsEntry : ℕ → Entry → Type 0
 IsEntry n (E.Due d) = (sort_number d.sort ≡ n % 8) × (d.levels ≡ n / 8 % 128) × (d.count ≡ n / 1_024)

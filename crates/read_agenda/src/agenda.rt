@@ -2,7 +2,7 @@
 ghost use Rattle.std.specs.Prelude.{◌≡◌, ◌+◌, ◌-◌, ◌<◌, get_or};
 ghost use Rattle.read_words.specs.ChildrenModel.{Few};
 ghost use Rattle.read_agenda.specs.StackModel.{agenda_base, stack, pushed_below, is_leaf, pushed_due, lessened};
-ghost use Rattle.read_agenda.specs.Entries.{due_word, EntryFits, OnTop, written, pushed_lines};
+ghost use Rattle.read_agenda.specs.Entries.{due_word, OnTop, written, pushed_lines};
 ghost use Rattle.read_agenda.specs.LentModel.{stack_of, Leaves};
 
 use crate::{Due, Entry};
@@ -21,7 +21,6 @@ fn is_leaf(children: Children) -> bool
 }
 
 // The agenda: so many entries, in this buffer.
-// Kept: what adds to it asks for a bound on its top, since each call may add more: no invariant of the type can say it.
 #[derive(Drop)]
 pub struct Agenda<'a> {
     pub work: &'a mut [u32],
@@ -39,20 +38,22 @@ impl<'a> Agenda<'a> {
         Some(Entry::of_number(number))
     }
 
-    // Writes an entry over the ones below it.
+    // Writes an entry over the ones below it. The top stays at the last number that a usize holds: no text has as many
+    // entries due.
     fn write(&mut self, entry: Entry)
-        requires few { self.old.top < 1048576 }
-        requires fits { EntryFits entry }
         ensures { Leaves self.old (written entry (stack_of self.old)) (self.old.top + 1) self.new }
     {
-        work_rows::put(self.work, AGENDA_BASE + self.top, entry.number());
-        self.top += 1;
+        work_rows::put(
+            self.work,
+            AGENDA_BASE.saturating_add(self.top),
+            entry.number(),
+        );
+        self.top = self.top.saturating_add(1);
     }
 
     // Puts lines on the agenda, if any are due.
     #[tactic(auto, unfolding(crate::specs::StackModel::pushed))]
     pub fn push(&mut self, due: Due)
-        requires { self.old.top < 1048576 }
         ensures { Leaves self.old (pushed_lines due (stack_of self.old)) (self.old.top + 1) self.new }
     {
         if due.count == 0 {
@@ -64,8 +65,7 @@ impl<'a> Agenda<'a> {
     // Puts what is due below a row on the agenda, the last first, over the end of the row.
     #[tactic(auto, unfolding(crate::specs::StackModel::pushed_below))]
     fn push_below(&mut self, row: usize, children: Children, levels: usize)
-        requires few { self.old.top < 1000000 }
-        requires in_range { (row < 4294967296) × (levels < 128) × Few children }
+        requires { (levels < 128) × Few children }
         ensures { Leaves self.old (pushed_below row children levels (stack_of self.old)) (self.old.top + 7) self.new }
     {
         let lines = |sort: Sort, count: usize| -> Due
@@ -89,8 +89,7 @@ impl<'a> Agenda<'a> {
     // Puts what is due below a row on the agenda, if anything is.
     #[tactic(auto, unfolding(crate::specs::StackModel::pushed_due))]
     pub fn push_due(&mut self, row: usize, children: Children, levels: usize)
-        requires few { self.old.top < 1000000 }
-        requires in_range { (row < 4294967296) × (levels < 128) × Few children }
+        requires { (levels < 128) × Few children }
         ensures { Leaves self.old (pushed_due row children levels (stack_of self.old)) (self.old.top + 7) self.new }
     {
         if is_leaf(children) {
@@ -109,7 +108,6 @@ impl<'a> Agenda<'a> {
     // One of the lines on top is taken.
     #[tactic(auto, unfolding(crate::specs::StackModel::lessened, crate::specs::StackModel::pushed))]
     pub fn one_less(&mut self, due: Due)
-        requires { self.old.top < 1048576 }
         ensures { Leaves self.old (lessened (due_word due) (stack_of self.old)) (self.old.top - 1 + 1) self.new }
     {
         self.pop();

@@ -1,9 +1,9 @@
 // The agenda: which lines are due, the next one on top. Its entries, and their numbers in the work buffer.
 #![tactic(auto)]
 
-ghost use Rattle.std.specs.Prelude.{◌≡◌, ◌<◌, MatchOption};
+ghost use Rattle.std.specs.Prelude.{◌≡◌, ◌%◌, ◌<◌, MatchOption};
 ghost use Rattle.spec_text.specs.SortsModel.{sort_number};
-ghost use Rattle.read_agenda.specs.Entries.{entry_word, EntryFits, IsEntry};
+ghost use Rattle.read_agenda.specs.Entries.{entry_word, IsEntry};
 
 mod agenda;
 mod due;
@@ -47,13 +47,13 @@ fn sort_of(number: usize) -> Option<Sort>
 }
 
 impl Entry {
+    // 32 bits of it are written, so that the sum may wrap.
     fn number(self) -> usize
-        requires { EntryFits self }
-        ensures { result ≡ entry_word self }
+        ensures { result % 4294967296 ≡ entry_word self % 4294967296 }
     {
         match self {
             Entry::Due(due) => due.sort.number() + SORTS * due.levels + LEVELS * due.count,
-            Entry::Close(row) => CLOSE + LEVELS * row,
+            Entry::Close(row) => CLOSE.wrapping_add(LEVELS.wrapping_mul(row)),
         }
     }
 
