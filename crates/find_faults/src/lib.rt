@@ -10,7 +10,9 @@ ghost use Rattle.find_faults.specs.Found.{Finds};
 use report_records::Record;
 use spec_text::Refused;
 
-// Reads the tree, walks it, and lists its faults in the work buffer. Hands back how many there are.
+// Reads the tree, walks it, and lists its faults in the work buffer. Hands back how many there are. Where no row has a
+// fault the pass that lists them is left out.
+// Kept: text and work by themselves, here and below: C lends two buffers, of which one is read and one is written.
 pub fn find(text: &[u8], work: &mut [u32]) -> Result<usize, Refused>
     ensures { Finds text.now (reading text.now (length work.old)) work.new result }
 {

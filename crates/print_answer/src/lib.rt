@@ -30,7 +30,7 @@ fn push_printed(
 }
 
 // Writes what `namecheck` prints for a text, as much as there is room for, and answers how many bytes.
-// Kept: a length and not the part that is written, as `Read` and `Write` answer one.
+// Kept: a length, since what `written` hands back is lent by the Output, which ends here.
 #[tactic(auto, using(crate::proofs::Reported::prints))]
 pub fn print(
     text: &[u8],

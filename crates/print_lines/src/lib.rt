@@ -16,6 +16,7 @@ use spec_faults::FaultKind;
 use write_bytes::Output;
 
 // The record that has these seven numbers.
+// Kept: here, and no From beside `Record::put`: only what is printed is read back, and a slice may be shorter.
 fn record_of(numbers: &[u32]) -> Record
     requires { 7 ≤ length numbers.now }
     ensures { result ≡ record_in numbers.now }

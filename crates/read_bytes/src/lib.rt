@@ -36,7 +36,7 @@ pub fn is_end(b: u8) -> bool
 }
 
 // The byte at i, and 0 past the end.
-// Kept: 0, which is no letter and ends no field; an Option would be taken apart by each caller to say the same.
+// Kept: 0 and no Option, since no word begins with it: so the end of a text is no case of its own.
 pub fn byte_at(text: &[u8], i: usize) -> u8
     ensures { result ≡ get_or text.now i 0 }
 {

@@ -9,14 +9,14 @@ use read_bytes::NamePart;
 use read_fields::{Cursor, Name, Number};
 use spec_text::Sort;
 
-// The largest s or e of a span, and the largest count.
+// The largest start or end of a span, and the largest count.
 const LARGEST_SPAN: u32 = 4294967295;
 
 const LARGEST_COUNT: u32 = 4096;
 
 // A line as numbers: the word's place in the table, the class of places where it is due, its span, its own name with
 // its hash, its counts, how many parameters it has, and where the next line starts.
-// Kept: no Option for what a line has not, which is 0: the documents say so of a name: "an absent one is 0, 0".
+// Kept: 0 and no Option for what the word's row has not: who reads a line goes by its kind, and an empty name is none.
 #[derive(Clone, Copy, PartialEq, Eq, Default)]
 pub struct Line {
     pub kind: usize,
@@ -55,7 +55,7 @@ fn number_if(due: bool, largest: u32, text: &[u8], c: Cursor) -> Option<Number>
 }
 
 // The line's own name, where one is due.
-// Kept: apart from number_if, whose result has another type; with a closure for the step each call would be longer.
+// Kept: apart from number_if, since with a closure for the step each of the six calls would be longer.
 #[tactic(auto, unfolding(crate::specs::StepsModel::name_if))]
 #[inline(always)]
 fn name_if(due: bool, text: &[u8], c: Cursor) -> Option<Name>

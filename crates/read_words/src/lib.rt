@@ -72,7 +72,7 @@ pub fn kind_of(text: &[u8], c: Cursor) -> Option<Kind>
 }
 
 // A row of the table.
-// Kept: a function of bools, so that each of the 29 rows is one line, as in the documents; a struct takes seven.
+// Kept: all five cells in each row, as in the documents' table; with `..` those that are left out would not be seen.
 fn row(spanned: bool, named: bool, counts: usize, params: bool, sort: Sort) -> Shape
     ensures { result ≡ record { spanned = spanned; named = named; counts = counts; params = params; sort = sort } }
 {

@@ -31,7 +31,8 @@ fn past_field(texts: &[u8], at: usize) -> usize
 }
 
 // Where line n of a table of texts starts, from 0 on.
-// Kept: the rule of the table speaks of fields; a split at LF would have to find the fields again in each line.
+// Kept: offsets in one table, which one rule holds to the eight texts: a `match` with three texts an arm would be as
+// long, and have a rule for each.
 fn words_start(texts: &[u8], n: usize) -> usize
     requires { (length texts.now ≤ 4096) × (n ≤ 8) }
     ensures { (result ≡ words_start n texts.now 0) × (result ≤ 12291 * 8) }

@@ -50,8 +50,8 @@ impl Entry {
 }
 
 // What is around a row: the row after the outermost lambda, the outermost class, and the row after that.
-// Kept: 0 stands for none, since an end is only compared with a row, and none is before 0.
-#[derive(Clone, Copy, PartialEq, Eq)]
+// Kept: 0 for none: ends are only compared with rows, and the class is asked for at a method alone, which has one around.
+#[derive(Clone, Copy, PartialEq, Eq, Default)]
 pub struct Around {
     pub lambda: usize,
     pub class: usize,

@@ -11,7 +11,7 @@ use work_rows::ROWS_MOST;
 
 // So many entries, in this buffer. Those that it has no room for are counted too.
 // A method that writes takes the buffer as `work` first, also to read.
-// Kept: `p < 4096` where the row after row p is asked for, and no invariant, since row p is no part of the list.
+// Kept: `p < 4096` where `p + 1` or the row after row p is made, and no invariant, since row p is no part of the list.
 #[derive(Drop)]
 pub struct Entries<'a> {
     pub work: &'a mut [u32],
@@ -154,11 +154,7 @@ impl<'a> Entries<'a> {
         requires { rows ≤ 4096 }
         ensures { Listed self.old (entries self.old.work.now first rows) self.new }
     {
-        let mut x = Around {
-            lambda: 0,
-            class: 0,
-            end: 0,
-        };
+        let mut x = Around::default();
         for p in first..rows {
             x = self.list_row(x, p);
         }

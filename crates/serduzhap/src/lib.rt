@@ -73,6 +73,7 @@ impl MessageError {
     }
 
     // What goes with it: a line, or 0, since nothing goes with 17 and 18.
+    // Kept: 0 and no Option, since in an answer for C a 0 stands there.
     pub fn detail(self) -> usize
         ensures { result ≡ get_or (message_values self) 0 0 }
     {

@@ -11,7 +11,7 @@ ghost use Rattle.serduzhap_c.specs.Numbers.{answer_of, part_answer, version};
 use work_rows::cut;
 
 // The first number of an answer that is neither a refusal nor a fault.
-// Kept: constants and no enum, since C is handed numbers.
+// Kept: constants and no enum, since C is handed numbers, and no code here matches on them.
 pub const ACCEPTED: usize = 100;
 
 pub const WRITTEN: usize = 101;

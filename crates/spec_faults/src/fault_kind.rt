@@ -18,6 +18,7 @@ pub enum FaultKind {
 
 impl FaultKind {
     // Its number in the documents: 8 to 15.
+    // Kept: a named method, here and of the other enums: `usize::from(kind)` would not say whose number it is.
     pub fn number(self) -> usize
         ensures { result ≡ kind_number self }
     {

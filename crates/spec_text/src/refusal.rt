@@ -24,6 +24,7 @@ impl Refusal {
 }
 
 // A text that is not read, and its line: the one that is wrong, missing or left; 0 for the first two.
+// Kept: no Option of a line, since the documents say: "1 to 7 carry a line number from 1 (0 for 1 and 2)".
 #[derive(Clone, Copy, PartialEq, Eq)]
 pub struct Refused {
     pub why: Refusal,

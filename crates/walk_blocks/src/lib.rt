@@ -1,4 +1,5 @@
 // The way into a block: its parameters are bound, and in a def each `var` is flagged by how its name stands to the def.
+// Kept: `i ≤ 4096` where the row after row i is made, since no usize is the row after the last that a usize holds.
 #![tactic(auto)]
 
 ghost use Rattle.std.specs.Prelude.{◌≡◌, ◌≤◌};

@@ -52,7 +52,7 @@ pub fn names() -> TableNames<'static>
 }
 
 // The number of a built-in name, in the table's order from 0. The walk binds the names of the table and asks for no
-// number: this and `is_builtin` are membership proved over the table, for whoever asks next (argument counts).
+// number: this and `is_builtin` are the membership proved over the table that was asked for (docs/DECISIONS.md).
 pub fn number_of(name: &[u8]) -> Option<usize>
     ensures { MatchOption result (number_of name.now ≡ 13) (λ k. (number_of name.now ≡ k) × (k < 13)) }
 {

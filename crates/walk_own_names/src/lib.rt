@@ -2,8 +2,8 @@
 // whether its name is an own name of the def, and whether it is assigned at that row. Own names are gathered first,
 // each with a stamp, the first row from which it is assigned; then the flags are set, and the stamps are forgotten. A
 // stamp that does not come after the def's row is an old one.
-// Kept: `i ≤ 16384` at each step, and no type for a row: no usize is the row after the last, and a struct with this
-// bound would be made anew for each row that a loop comes to.
+// Kept: `i ≤ 16384`, which no row passes, at each step, and no type for a row: no usize is the row after the last, and a
+// struct with this bound would be made anew for each row that a loop comes to.
 #![tactic(auto)]
 
 ghost use Rattle.std.specs.Prelude.{◌≡◌, ◌<◌, ◌≤◌, ℕ, List};
@@ -20,7 +20,7 @@ use work_rows::ROWS_MOST;
 
 // The def at row b has the name of its own, assigned from a row on.
 // Kept: `name < ROWS_MOST`, and no type for a name's row: a name's number comes out of the buffer, and whatever stands
-// there, the test keeps the stamp in its part.
+// there, the test keeps the stamp in its region.
 #[tactic(auto, unfolding(crate::specs::OwnNamesModel::noted))]
 pub fn note_name(work: &mut [u32], b: usize, name: usize, from: usize)
     ensures { work.new ≡ noted b name from work.old }

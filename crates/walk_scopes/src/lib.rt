@@ -77,6 +77,7 @@ impl ScopeStack {
     }
 
     // Whether a def, a method or the module around row i binds the name before it: up to a row after row i.
+    // The marks say it, whichever scope is on top.
     pub fn is_defined(&self, work: &[u32], name: usize, i: usize) -> bool
         ensures { result ≡ is_defined work.now name i }
     {

@@ -112,7 +112,7 @@ impl<'a> Walker<'a> {
 
     // A list of expressions.
     // Kept: a loop, here and in the lists of targets and statements: a closure for one row, in a cycle of calls, needs
-    // a contract of its own, and is longer than the loop.
+    // a contract of its own, and is longer than the loop (each_row of walk_own_names is in no cycle).
     #[cycle(walks)]
     fn exprs(&mut self, left: usize, scope: &Scope, first: usize, stop: usize)
         requires { stop ≤ 16384 }
@@ -270,6 +270,7 @@ impl<'a> Walker<'a> {
 
 // Walks the tree of so many `global` lines and so many rows: afterwards the slot of each row has the kind of its fault,
 // or 0.
+// Kept: two numbers and no `Tree`, since they are the first row and the row after the last, here and in the report.
 #[tactic(auto, unfolding(crate::specs::WalkModel::walked))]
 pub fn walk(text: &[u8], work: &mut [u32], globals: usize, rows: usize)
     requires { rows ≤ 4096 }

@@ -45,7 +45,7 @@ impl Bits {
 
     // Raises the mark of a name to a row, if it is before that.
     // Kept: `name < ROWS_MOST`, and no type for a name's row: a name's number comes out of the buffer, and whatever
-    // stands there, the test keeps the mark in its part.
+    // stands there, the test keeps the mark in its region.
     #[inline]
     #[tactic(auto, unfolding(crate::specs::Parts::raised_part))]
     pub fn raise(self, work: &mut [u32], name: usize, end: usize)

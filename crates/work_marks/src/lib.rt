@@ -92,6 +92,7 @@ pub fn raise_block(work: &mut [u32], name: usize, end: usize)
 }
 
 // Whether row i has a fault: whether its slot has a number.
+// Kept: apart from `fault`, since what is asked is whether a slot has any number (`any_fault`).
 pub fn has_fault(work: &[u32], i: usize) -> bool
     ensures { result ≡ not (eqb (slot_at work.now i) 0) }
 {
@@ -173,7 +174,7 @@ pub fn forget_marks(work: &mut [u32], rows: usize)
     }
 }
 
-// And no stamp.
+// Of the first rows no stamp, flag or link is left.
 pub fn forget_stamps(work: &mut [u32], rows: usize)
     ensures { work.new ≡ unstamped rows work.old }
 {

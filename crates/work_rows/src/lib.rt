@@ -1,6 +1,6 @@
 // The work buffer's numbers: read and written at any index, and the parts of a row.
-// Kept: functions of a buffer and a row, since the buffer is the caller's (C lends it): a struct round it would be made
-// anew at each call, and each contract would say which buffer it lends.
+// Kept: functions of a buffer and a row, and no methods of a struct that lends it: after a read through a field a proof no
+// longer knows what the buffer holds.
 #![tactic(auto)]
 
 ghost use Rattle.std.specs.Prelude.{◌≡◌, ◌+◌, ◌%◌, ◌<◌, ◌≤◌, get_or};
@@ -21,7 +21,7 @@ pub const HEAD_END: usize = 12288;
 // `same`.
 pub const LINE_KINDS: usize = 32;
 
-pub const OFFSETS: usize = 65536;
+const OFFSETS: usize = 65536;
 
 // What stands above a row's offset: the earliest row that has its name; or, where this row is the earliest, the next row
 // in the chain of the names that have its hash.
