@@ -1,6 +1,6 @@
 -- The definitions by their tests: what is listed at a row, what is around the rows below it, how many entries a row has, and one row more.
 use Rattle.std.proofs.Common.{ℕ, zero, suc, ◌+◌, ◌-◌, ◌≤◌, ◌<◌, arith, ◌≡◌, ap, Bool, true, false, cond, ◌&&◌, ◌||◌, List, [], ◌∷◌, ◌++◌, append-nil, eqb, leb, length, length-append, eq-eqb, ne_eqb, le-leb}
-use borrow.Author.Tests.{lt-leb}
+use Rattle.std.proofs.lemmas.Bool.{lt-leb}
 use Rattle.spec_faults.specs.Faults.{capture}
 use Rattle.work_rows.specs.Layout.{kind_at, lines_below, after_row}
 use Rattle.report_order.specs.declared.Around.{Around}

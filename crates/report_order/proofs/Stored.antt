@@ -15,12 +15,12 @@ abbrev pub Same : List ℕ → List ℕ → Type 0
 Same w v = (i : ℕ) → i < 12_288 → get_or v i 0 ≡ get_or w i 0
 
 -- nothing before the first entry changes
-stored_before : (es : List ℕ) (j : ℕ) (w : List ℕ) (i : ℕ) → i < entry_base + j → get_or (stored es j w) i 0 ≡ get_or w i 0
+pub stored_before : (es : List ℕ) (j : ℕ) (w : List ℕ) (i : ℕ) → i < entry_base + j → get_or (stored es j w) i 0 ≡ get_or w i 0
 unfolding stored
 stored_before [] j w i l = refl
 stored_before (e ∷ es) j w i l = stored_before es (j + 1) (put w (entry_base + j) e) i (omega arith) ∙ get_or-set_other w (entry_base + j) i _ 0 (λ q. omega arith)
 
-pub same_after : (es : List ℕ) (j : ℕ) (w : List ℕ) {z : List ℕ} → z ≡ stored es j w → Same w z
+same_after : (es : List ℕ) (j : ℕ) (w : List ℕ) {z : List ℕ} → z ≡ stored es j w → Same w z
 same_after es j w e = subst (Same w) (sym e) (λ i l. stored_before es j w i (omega arith))
 
 module _ (w v : List ℕ) (s : Same w v) where
@@ -73,10 +73,10 @@ stored_append (e ∷ a) b j w =
 
 -- ---- a list, part by part
 -- a list is the same list
-pub listed_as : {a b : Entries} {es fs : List ℕ} → es ≡ fs → Listed a es b → Listed a fs b
+listed_as : {a b : Entries} {es fs : List ℕ} → es ≡ fs → Listed a es b → Listed a fs b
 listed_as {a} {b} e h = subst (λ es. Listed a es b) e h
 
-pub listed_nothing : (a : Entries) → Listed a [] a
+listed_nothing : (a : Entries) → Listed a [] a
 unfolding stored
 listed_nothing a = record { written = refl; count = omega arith; same_buffer = refl }
 

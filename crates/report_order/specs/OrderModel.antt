@@ -88,10 +88,12 @@ unfoldable pub stored : List ℕ → ℕ → List ℕ → List ℕ
 stored [] j w = w
 stored (e ∷ es) j w = stored es (j + 1) (put w (entry_base + j) e)
 
--- the j-th
+-- the entry of a number, and the j-th
+abbrev pub entry_of : ℕ → Entry
+entry_of n = record { kind = kind_by_number (n / 67_108_864); of = n / 8_192 % 8_192; row = n % 8_192 }
+
 abbrev pub entry_at : List ℕ → ℕ → Entry
-entry_at w j =
-    record { kind = kind_by_number (get_or w (entry_base + j) 0 / 67_108_864); of = get_or w (entry_base + j) 0 / 8_192 % 8_192; row = get_or w (entry_base + j) 0 % 8_192 }
+entry_at w j = entry_of (get_or w (entry_base + j) 0)
 
 -- ---- whether a slot has a fault
 -- of n rows from row i on

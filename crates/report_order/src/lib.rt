@@ -5,7 +5,7 @@ ghost use Rattle.std.specs.Prelude.{◌≡◌, ◌||◌, ◌<◌, ◌≤◌, eqb
 ghost use Rattle.spec_faults.specs.Faults.{capture};
 ghost use Rattle.spec_faults.specs.Kinds.{kind_number};
 ghost use Rattle.work_marks.specs.MarksModel.{slot_at};
-ghost use Rattle.report_order.specs.OrderModel.{entries, stored, entry_at, any_fault};
+ghost use Rattle.report_order.specs.OrderModel.{entry, entry_of, entries, stored, entry_at, any_fault};
 
 use spec_faults::FaultKind;
 
@@ -21,16 +21,35 @@ const ENTRY_ROWS: usize = 8192;
 
 const ENTRY_KINDS: usize = 67108864;
 
-#[derive(Clone, Copy)]
+#[derive(Clone, Copy, PartialEq, Eq)]
 pub struct Entry {
     pub kind: FaultKind,
     pub of: usize,
     pub row: usize,
 }
 
+impl Entry {
+    fn number(self) -> usize
+        requires { (self.of ≤ 16384) × (self.row ≤ 16384) }
+        ensures { result ≡ entry (kind_number self.kind) self.of self.row }
+    {
+        ENTRY_KINDS * self.kind.number() + ENTRY_ROWS * self.of + self.row
+    }
+
+    fn of_number(number: usize) -> Entry
+        ensures { result ≡ entry_of number }
+    {
+        Entry {
+            kind: FaultKind::by_number(number / ENTRY_KINDS),
+            of: number / ENTRY_ROWS % ENTRY_ROWS,
+            row: number % ENTRY_ROWS,
+        }
+    }
+}
+
 // What is around a row: the row after the outermost lambda, the outermost class, and the row after that.
 // Kept: 0 stands for none, since an end is only compared with a row, and none is before 0.
-#[derive(Clone, Copy)]
+#[derive(Clone, Copy, PartialEq, Eq)]
 pub struct Around {
     pub lambda: usize,
     pub class: usize,
@@ -87,10 +106,5 @@ pub fn list_faults(work: &mut [u32], first: usize, rows: usize) -> usize
 pub fn entry_at(work: &[u32], j: usize) -> Entry
     ensures { result ≡ entry_at work.now j }
 {
-    let e = work_rows::get(work, ENTRY_BASE.saturating_add(j));
-    Entry {
-        kind: FaultKind::by_number(e / ENTRY_KINDS),
-        of: e / ENTRY_ROWS % ENTRY_ROWS,
-        row: e % ENTRY_ROWS,
-    }
+    Entry::of_number(work_rows::get(work, ENTRY_BASE.saturating_add(j)))
 }

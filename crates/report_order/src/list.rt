@@ -5,7 +5,7 @@ ghost use Rattle.work_rows.specs.Layout.{kind_at, after_row};
 ghost use Rattle.report_order.specs.OrderModel.{entry, fault_in, captured, captures, called, itself, around, placed_at, entries};
 ghost use Rattle.report_order.specs.ListModel.{Listed};
 
-use crate::{Around, ENTRY_BASE, ENTRY_KINDS, ENTRY_ROWS, is_called, is_capture, is_its_own_place};
+use crate::{Around, ENTRY_BASE, Entry, is_called, is_capture, is_its_own_place};
 use spec_faults::FaultKind;
 use spec_text::line_kind;
 use work_rows::ROWS_MOST;
@@ -67,16 +67,12 @@ impl<'a> Entries<'a> {
 
     // Writes one entry more.
     #[tactic(auto, unfolding(crate::specs::OrderModel::stored))]
-    fn add(&mut self, kind: FaultKind, of: usize, row: usize)
+    fn add(&mut self, e: Entry)
         requires few { self.old.count ≤ 268435456 }
-        requires rows { (of ≤ 16384) × (row ≤ 16384) }
-        ensures { Listed self.old (entry (kind_number kind) of row ∷ []) self.new }
+        requires rows { (e.of ≤ 16384) × (e.row ≤ 16384) }
+        ensures { Listed self.old (entry (kind_number e.kind) e.of e.row ∷ []) self.new }
     {
-        work_rows::put(
-            self.work,
-            ENTRY_BASE + self.count,
-            ENTRY_KINDS * kind.number() + ENTRY_ROWS * of + row,
-        );
+        work_rows::put(self.work, ENTRY_BASE + self.count, e.number());
         self.count += 1;
     }
 
@@ -91,7 +87,11 @@ impl<'a> Entries<'a> {
             return;
         };
         if is_capture(kind) {
-            self.add(kind, p, i);
+            self.add(Entry {
+                kind,
+                of: p,
+                row: i,
+            });
         }
     }
 
@@ -117,7 +117,11 @@ impl<'a> Entries<'a> {
             return;
         };
         if is_called(kind) {
-            self.add(kind, p, p + 1);
+            self.add(Entry {
+                kind,
+                of: p,
+                row: p + 1,
+            });
         }
     }
 
@@ -132,9 +136,17 @@ impl<'a> Entries<'a> {
             return;
         };
         if is_its_own_place(kind) {
-            self.add(kind, p, p);
+            self.add(Entry {
+                kind,
+                of: p,
+                row: p,
+            });
         } else if kind == FaultKind::MethodWithoutSelf {
-            self.add(kind, class, p);
+            self.add(Entry {
+                kind,
+                of: class,
+                row: p,
+            });
         }
     }
 

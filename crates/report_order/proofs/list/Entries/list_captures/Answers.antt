@@ -1,11 +1,7 @@
 -- One row more, and none.
 use Rattle.std.proofs.Common.{arith}
-use Rattle.report_order.proofs.Stored.{left_all}
 use Rattle.report_order.proofs.AtRow.{captures_more, captures_end, captured_few}
 use Rattle.report_order.proofs.list.Entries.list_captures.Goals as goal
-
-pub loop-i-init : goal.loop-i-init
-loop-i-init c = record { few = omega arith; left = left_all _ _ }
 
 pub loop-i-preserved : goal.loop-i-preserved
 loop-i-preserved c =

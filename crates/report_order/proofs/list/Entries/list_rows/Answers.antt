@@ -1,22 +1,13 @@
 -- One row more, and none.
-use Rattle.std.proofs.Common.{◌≡◌, ap, arith}
+use Rattle.std.proofs.Common.{ap, arith}
 use Rattle.report_order.specs.declared.Around.{Around}
-use Rattle.report_order.proofs.Stored.{left_all}
 use Rattle.report_order.proofs.AtRow.{class_few, placed_few, entries_more, entries_end}
 use Rattle.report_order.proofs.list.Entries.list_rows.Goals as goal
 
-pub loop-p-init : goal.loop-p-init
-loop-p-init c = record { few = omega arith; class = omega arith; left = left_all _ _ }
-
-pub list_row-requires : goal.list_row-requires
-list_row-requires c =
+pub list_row-requires-clause-rows : goal.list_row-requires-clause-rows
+list_row-requires-clause-rows c =
     let l = c.loop-p in
-    let n = c.next_around-next in
-    let e : n.result.class ≡ _ = ap (λ (y : Around). y.class) n.ensures in record {
-      few = omega arith;
-      rows = (omega arith, omega (arith, e, class_few l.self.work.now l.x l.p (omega arith) l.invariant.class));
-      class_around = e;
-    }
+    (omega arith, omega (arith, ap (λ (y : Around). y.class) c.next_around-next.ensures, class_few l.self.work.now l.x l.p (omega arith) l.invariant.class))
 
 pub loop-p-preserved : goal.loop-p-preserved
 loop-p-preserved c =
