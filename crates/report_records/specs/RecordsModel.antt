@@ -3,10 +3,15 @@ use Rattle.std.specs.Prelude.{ℕ, ◌%◌, cond, List, [], ◌∷◌, map, eqb}
 use Rattle.spec_text.specs.Bytes.{Bytes}
 use Rattle.spec_faults.specs.declared.fault_kind.FaultKind.{FaultKind}
 use Rattle.spec_faults.specs.Kinds.{kind_number}
+use Rattle.read_bytes.specs.declared.name_part.NamePart.{NamePart}
 use Rattle.read_row.specs.RowModel.{line_of_row}
 use Rattle.read_line.specs.declared.Line.{Line}
 use Rattle.report_order.specs.declared.Entry.{Entry}
 use Rattle.report_records.specs.declared.Record.{Record}
+
+-- "an absent one is 0, 0"
+abbrev pub absent : NamePart
+absent = record { offset = 0; len = 0 }
 
 -- kind 14 has no name, and only kind 15 has a class
 abbrev pub of_lines : FaultKind → Line → Line → Record
@@ -15,10 +20,8 @@ of_lines kind of row =
       kind = kind;
       start = of.start;
       end = of.end;
-      name = cond (eqb (kind_number kind) 14) 0 row.name;
-      name_len = cond (eqb (kind_number kind) 14) 0 row.len;
-      class = cond (eqb (kind_number kind) 15) of.name 0;
-      class_len = cond (eqb (kind_number kind) 15) of.len 0;
+      name = cond (eqb (kind_number kind) 14) absent row.name;
+      class = cond (eqb (kind_number kind) 15) of.name absent;
     }
 
 unfoldable pub record_of : Bytes → List ℕ → Entry → Record
@@ -26,7 +29,7 @@ record_of text w e = of_lines e.kind (line_of_row text w e.of) (line_of_row text
 
 -- its seven numbers
 abbrev pub numbers : Record → List ℕ
-numbers r = kind_number r.kind ∷ r.start ∷ r.end ∷ r.name ∷ r.name_len ∷ r.class ∷ r.class_len ∷ []
+numbers r = kind_number r.kind ∷ r.start ∷ r.end ∷ r.name.offset ∷ r.name.len ∷ r.class.offset ∷ r.class.len ∷ []
 
 -- as they are written: 32 bits each
 abbrev pub cut32 : List ℕ → List ℕ

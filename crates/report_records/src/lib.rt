@@ -1,28 +1,29 @@
 // The record of a listed fault: seven numbers.
 #![tactic(auto)]
 
-ghost use Rattle.std.specs.Prelude.{◌≡◌, ◌<◌, ◌≤◌, ◌+◌, ◌%◌, length, take, drop, ◌++◌};
+ghost use Rattle.std.specs.Prelude.{◌≡◌, ◌%◌, ◌++◌, length, take, drop};
 ghost use Rattle.report_records.specs.RecordsModel.{record_of, numbers32};
 
+use read_bytes::NamePart;
 use report_order::Entry;
 use spec_faults::FaultKind;
 
 // How many numbers a record has.
 pub const RECORD: usize = 7;
 
-#[derive(Clone, Copy)]
+// The fault's kind, its span, its name, and the name of its class.
+#[derive(Clone, Copy, PartialEq, Eq)]
 pub struct Record {
     pub kind: FaultKind,
     pub start: u32,
     pub end: u32,
-    pub name: usize,
-    pub name_len: usize,
-    pub class: usize,
-    pub class_len: usize,
+    pub name: NamePart,
+    pub class: NamePart,
 }
 
 // 32 bits of a number.
-fn cut(n: usize) -> u32
+// Kept: the remainder, since the check wants of `n as u32` that nothing is lost, and takes no cast that cuts.
+pub fn cut(n: usize) -> u32
     ensures { result ≡ n % 4294967296 }
 {
     (n % 4294967296) as u32
@@ -35,40 +36,38 @@ pub fn record_of(text: &[u8], work: &[u32], e: Entry) -> Record
 {
     let of = read_row::line_of_row(text, work, e.of);
     let row = read_row::line_of_row(text, work, e.row);
-    let (name, name_len) = if e.kind == FaultKind::InvalidTarget {
-        (0, 0)
-    } else {
-        (row.name, row.len)
-    };
-    let (class, class_len) = if e.kind == FaultKind::MethodWithoutSelf {
-        (of.name, of.len)
-    } else {
-        (0, 0)
-    };
     Record {
         kind: e.kind,
         start: of.start,
         end: of.end,
-        name,
-        name_len,
-        class,
-        class_len,
+        name: if e.kind == FaultKind::InvalidTarget {
+            NamePart::default()
+        } else {
+            row.name
+        },
+        class: if e.kind == FaultKind::MethodWithoutSelf {
+            of.name
+        } else {
+            NamePart::default()
+        },
     }
 }
 
-// Writes a record at an index, where there is room.
-pub fn put_record(out: &mut [u32], at: usize, r: Record)
-    requires { at + 7 ≤ length out.old }
-    ensures { out.new ≡ take at out.old ++ (numbers32 r ++ drop (at + 7) out.old) }
-{
-    let numbers = [
-        cut(r.kind.number()),
-        r.start,
-        r.end,
-        cut(r.name),
-        cut(r.name_len),
-        cut(r.class),
-        cut(r.class_len),
-    ];
-    out[at..at + RECORD].copy_from_slice(&numbers);
+impl Record {
+    // Writes its seven numbers to the start of a slice, 32 bits of each, as many as there is room for.
+    pub fn put(self, to: &mut [u32])
+        ensures { to.new ≡ take (length to.old) (numbers32 self) ++ drop 7 to.old }
+    {
+        let numbers = [
+            cut(self.kind.number()),
+            self.start,
+            self.end,
+            cut(self.name.offset),
+            cut(self.name.len),
+            cut(self.class.offset),
+            cut(self.class.len),
+        ];
+        let len = to.len().min(RECORD);
+        to[..len].copy_from_slice(&numbers[..len]);
+    }
 }
