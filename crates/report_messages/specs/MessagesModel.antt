@@ -4,12 +4,12 @@ use Rattle.spec_text.specs.Bytes.{Bytes, part_of}
 use Rattle.spec_faults.specs.Faults.{message}
 use Rattle.spec_faults.specs.Kinds.{kind_number}
 use Rattle.report_records.specs.declared.Record.{Record}
-use Rattle.report_messages.specs.declared.Parts.{Parts}
+use Rattle.report_messages.specs.declared.Message.{Message}
 
 -- the message of a record
 abbrev pub record_message : Bytes → Record → Bytes
-record_message text r = message (kind_number r.kind) (part_of text r.name r.name_len) (part_of text r.class r.class_len)
+record_message text r = message (kind_number r.kind) (part_of text r.name.offset r.name.len) (part_of text r.class.offset r.class.len)
 
 -- the parts of a message, one after the other
-abbrev pub whole : Parts → Bytes
-whole p = p.before.now ++ (p.name.now ++ (p.between.now ++ (p.class.now ++ p.after.now)))
+abbrev pub whole : Message → Bytes
+whole m = m.before.now ++ (m.name.now ++ (m.between.now ++ (m.class.now ++ m.after.now)))

@@ -46,47 +46,39 @@ fn words_start(texts: &[u8], n: usize) -> usize
 }
 
 // A message in parts: the words of its kind, round the two names.
-#[derive(Clone, Copy)]
-struct Parts<'a> {
-    before: &'a [u8],
-    name: &'a [u8],
-    between: &'a [u8],
-    class: &'a [u8],
-    after: &'a [u8],
+#[derive(Clone, Copy, PartialEq, Eq)]
+pub struct Message<'a> {
+    pub before: &'a [u8],
+    pub name: &'a [u8],
+    pub between: &'a [u8],
+    pub class: &'a [u8],
+    pub after: &'a [u8],
 }
 
-impl<'a> Parts<'a> {
-    // The parts of a record's message, by a table that keeps the rule of the eight texts.
-    fn by(texts: &'a [u8], text: &'a [u8], r: Record) -> Parts<'a>
-        requires { Rule texts.now }
+impl<'a> Message<'a> {
+    // The message of a record.
+    pub fn of(text: &'a [u8], r: Record) -> Message<'a>
         ensures message { whole result ≡ record_message text.now r }
         ensures short { length (whole result) ≤ 12288 + 2 * length text.now }
     {
+        let texts = TEXTS;
         let a = words_start(
             texts,
             r.kind.number() - FaultKind::UndefinedVariable.number(),
         );
         let b = past_field(texts, a);
         let c = past_field(texts, b);
-        Parts {
+        Message {
             before: read_fields::field(texts, a),
-            name: read_bytes::part(text, r.name, r.name_len),
+            name: r.name.of(text),
             between: read_fields::field(texts, b),
-            class: read_bytes::part(text, r.class, r.class_len),
+            class: r.class.of(text),
             after: read_fields::field(texts, c),
         }
     }
 
-    // By the table above.
-    fn of(text: &'a [u8], r: Record) -> Parts<'a>
-        ensures message { whole result ≡ record_message text.now r }
-        ensures short { length (whole result) ≤ 12288 + 2 * length text.now }
-    {
-        Parts::by(TEXTS, text, r)
-    }
-
-    // How many bytes they have.
-    fn len(&self) -> usize
+    // How many bytes it has.
+    pub fn len(&self) -> usize
         requires { length (whole self.now) < 18446744073709551616 }
         ensures { result ≡ length (whole self.now) }
     {
@@ -97,8 +89,8 @@ impl<'a> Parts<'a> {
             + self.after.len()
     }
 
-    // Pushes them.
-    fn push(&self, output: &mut Output)
+    // Pushes it.
+    pub fn push(&self, output: &mut Output)
         ensures { Pushed output.old (whole self.now) output.new }
     {
         output.push(self.before);
@@ -107,19 +99,4 @@ impl<'a> Parts<'a> {
         output.push(self.class);
         output.push(self.after);
     }
-}
-
-// Pushes the message of a record.
-pub fn push_message(text: &[u8], output: &mut Output, r: Record)
-    ensures { Pushed output.old (record_message text.now r) output.new }
-{
-    Parts::of(text, r).push(output);
-}
-
-// How many bytes the message of a record has.
-pub fn message_len(text: &[u8], r: Record) -> usize
-    requires { length text.now < 4294967296 }
-    ensures { result ≡ length (record_message text.now r) }
-{
-    Parts::of(text, r).len()
 }

@@ -1,0 +1,34 @@
+-- The words of the kind's line, round the two names. antt computes that the table of src/lib.rt keeps the rule, over the whole of it.
+use Rattle.std.proofs.Common.{◌≡◌, ◌≤◌, ◌-◌, length, ap, ◌∙◌, arith, length-append, refl}
+use Rattle.spec_faults.specs.Kinds.{kind_number}
+use Rattle.spec_faults.proofs.KindNumbers.{from_eight}
+use Rattle.read_fields.specs.FieldsModel.{field}
+use Rattle.report_messages.specs.TextsModel.{words_start, Rule}
+use Rattle.report_messages.specs.declared.TheConstants.{TEXTS}
+use Rattle.report_messages.proofs.Table.{message_found}
+use Rattle.report_messages.proofs.Lengths.{part_fits, field_fits}
+use Rattle.report_messages.proofs.Message.of.Goals as goal
+
+rule : Rule TEXTS.now
+unfolding field
+rule = record { short = omega arith; table = refl }
+
+pub returns-clause-message : goal.returns-clause-message
+returns-clause-message c =
+    let r = c.args.r in
+    let k = from_eight r.kind in
+    let line : c.number.result - c.number-2.result ≡ kind_number r.kind - 8 = omega (arith, c.number.ensures, c.number-2.ensures) in
+    rw (← c.of.ensures, ← c.of-2.ensures)
+    (message_found TEXTS.now c.of.result.now c.of-2.result.now rule (kind_number r.kind) k.0 k.1 _ _ _ _ _ _
+    (c.words_start-a.ensures.0 ∙ ap (λ n. words_start n TEXTS.now 0) line) c.past_field-b.ensures.0 c.past_field-c.ensures.0
+    c.field.ensures c.field-2.ensures c.field-3.ensures)
+
+pub returns-clause-short : goal.returns-clause-short
+returns-clause-short c =
+    let a = c.args in
+    let f : length c.field.result.now ≤ 4_096 = omega (arith, ap length c.field.ensures, field_fits TEXTS.now c.words_start-a.result, rule.short) in
+    let g : length c.field-2.result.now ≤ 4_096 = omega (arith, ap length c.field-2.ensures, field_fits TEXTS.now c.past_field-b.result, rule.short) in
+    let h : length c.field-3.result.now ≤ 4_096 = omega (arith, ap length c.field-3.ensures, field_fits TEXTS.now c.past_field-c.result, rule.short) in
+    let x : length c.of.result.now ≤ length a.text.now = omega (arith, ap length c.of.ensures, part_fits a.text.now a.r.name.offset a.r.name.len) in
+    let y : length c.of-2.result.now ≤ length a.text.now = omega (arith, ap length c.of-2.ensures, part_fits a.text.now a.r.class.offset a.r.class.len) in
+    simp length-append (omega arith)
