@@ -1,5 +1,7 @@
 -- The words of the kind's line, round the two names. antt computes that the table of src/lib.rt keeps the rule, over the whole of it.
-use Rattle.std.proofs.Common.{◌≡◌, ◌≤◌, ◌-◌, length, ap, ◌∙◌, arith, length-append, refl}
+use Rattle.std.proofs.Common.{◌≡◌, ◌≤◌, ◌-◌, length, ap, ap₂, ◌∙◌, arith, length-append, refl}
+use Rattle.spec_text.specs.Bytes.{part_of}
+use Rattle.spec_faults.specs.Faults.{message}
 use Rattle.spec_faults.specs.Kinds.{kind_number}
 use Rattle.spec_faults.proofs.KindNumbers.{from_eight}
 use Rattle.read_fields.specs.FieldsModel.{field}
@@ -15,13 +17,16 @@ rule = record { short = omega arith; table = refl }
 
 pub returns-clause-message : goal.returns-clause-message
 returns-clause-message c =
-    let r = c.args.r in
+    let a = c.args in
+    let r = a.r in
     let k = from_eight r.kind in
     let line : c.number.result - c.number-2.result ≡ kind_number r.kind - 8 = omega (arith, c.number.ensures, c.number-2.ensures) in
-    rw (← c.of.ensures, ← c.of-2.ensures)
-    (message_found TEXTS.now c.of.result.now c.of-2.result.now rule (kind_number r.kind) k.0 k.1 _ _ _ _ _ _
+    let name : c.of.result.now ≡ part_of a.text.now r.name.offset r.name.len = c.of.ensures in
+    let class : c.of-2.result.now ≡ part_of a.text.now r.class.offset r.class.len = c.of-2.ensures in
+    message_found TEXTS.now c.of.result.now c.of-2.result.now rule (kind_number r.kind) k.0 k.1 _ _ _ _ _ _
     (c.words_start-a.ensures.0 ∙ ap (λ n. words_start n TEXTS.now 0) line) c.past_field-b.ensures.0 c.past_field-c.ensures.0
-    c.field.ensures c.field-2.ensures c.field-3.ensures)
+    c.field.ensures c.field-2.ensures c.field-3.ensures
+    ∙ ap₂ (message (kind_number r.kind)) name class
 
 pub returns-clause-short : goal.returns-clause-short
 returns-clause-short c =
