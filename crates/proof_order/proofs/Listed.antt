@@ -1,15 +1,7 @@
 -- What is listed at each row shows the faults that have it as their place, in their order. The listing goes down the rows and knows the
 -- outermost lambda and class around; a fault's row, and how it came to its place, tell in which list it stands.
-use Prim.Native.Nat.{ℕ, zero, suc, ◌+◌, ◌≤◌, ◌<◌}
-use native.Mathlib.Omega.{arith}
-use native.Mathlib.Decide.{ℕ_discrete, dec_lt}
-use native.Mathlib.Numerals.{add-one}
-use mathlib.Core.Path.{◌≡◌, refl, sym, ap, ◌∙◌, subst}
-use mathlib.Core.Bool.{Bool, true, false, cond, ◌&&◌, ◌||◌, false≢true}
-use mathlib.Core.List.{List, [], ◌∷◌, ◌++◌, append-nil}
-use lib.Dec.{eqb, leb}
-use lib.ListN.{length, get_or}
-use borrow.Author.Tests.{eqb-true, eqb-false, eq-eqb, ne_eqb, leb-true, leb-false, lt-ltb, le-leb}
+use Rattle.std.proofs.Math.Decide.{ℕ_discrete, dec_lt}
+use Rattle.std.proofs.lemmas.Bool.{false≢true, eqb-false}
 use Rattle.spec_faults.specs.Faults.{Fault, capture, by_place}
 use Rattle.spec_faults.proofs.Lists.{All, none, also, and_split}
 use Rattle.spec_faults.proofs.Once.{placed}
@@ -20,7 +12,7 @@ use Rattle.read_tree.specs.Laid.{no_row}
 use Rattle.proof_walk.specs.Slots.{Key, key_of, slots_from, keys}
 use Rattle.report_order.specs.declared.Around.{Around}
 use Rattle.work_marks.specs.Signs.{fault_of}
-use Rattle.std.proofs.Common.{None, not}
+use Rattle.std.proofs.Common.{None, not, ℕ, zero, suc, ◌+◌, ◌≤◌, ◌<◌, arith, add-one, ◌≡◌, refl, sym, ap, ◌∙◌, subst, Bool, true, false, cond, ◌&&◌, ◌||◌, List, [], ◌∷◌, ◌++◌, append-nil, eqb, leb, length, get_or, eqb-true, eq-eqb, ne_eqb, leb-true, leb-false, lt-ltb, le-leb}
 use Rattle.spec_faults.proofs.KindNumbers.{number_again}
 use Rattle.report_order.specs.OrderModel.{entry, number_of, slot_in, captured, captures, called, itself, new_lambda, around, placed_at, entries_from, any_slot}
 use Rattle.proof_order.specs.Shown.{Shows, Pairs}
@@ -79,7 +71,7 @@ over_start f = record { some = λ l. absurd (omega arith); all = λ c e _ l m. a
 not_taken : (a b k : ℕ) {end p : ℕ} → a ≡ b → (eqb a k && leb end p) ≡ false → b ≡ k → p < end
 not_taken a b k {end} {p} e f d = leb-false end p (ap (λ t. t && leb end p) (sym (eq-eqb a k (e ∙ d))) ∙ f)
 
-pub over_next : {rows : List Row} {k p top end : ℕ} (a e : ℕ) → a ≡ word_in rows p → e ≡ end_in rows p → Over rows k p top end
+over_next : {rows : List Row} {k p top end : ℕ} (a e : ℕ) → a ≡ word_in rows p → e ≡ end_in rows p → Over rows k p top end
     → Over rows k (suc p) (cond (eqb a k && leb end p) p top) (cond (eqb a k && leb end p) e end)
 over_next {rows} {k} {p} {top} {end} a e word last o = go (eqb a k && leb end p) refl
   where
@@ -105,7 +97,7 @@ over_next {rows} {k} {p} {top} {end} a e word last o = go (eqb a k && leb end p)
         at c d f l m (no n) = o.all c d f (omega arith) (omega arith)
 
 -- ---- one for one
-pub pairs_append : {A B : Type 0} {R : A → B → Type 0} {a b : List A} {c d : List B} → Pairs R a c → Pairs R b d → Pairs R (a ++ b) (c ++ d)
+pairs_append : {A B : Type 0} {R : A → B → Type 0} {a b : List A} {c d : List B} → Pairs R a c → Pairs R b d → Pairs R (a ++ b) (c ++ d)
 pairs_append Pairs.none q = q
 pairs_append (Pairs.pair h p) q = Pairs.pair h (pairs_append p q)
 

@@ -1,13 +1,8 @@
 -- How far rows reach: no row of a part reaches past the part, and a call has a row below it. So a row before a part reaches over it only if
 -- it is around it, and where no row of a word is around a part, none is around what follows the part.
-use Prim.Native.Nat.{ℕ, suc, ◌+◌, ◌≤◌, ◌<◌}
-use native.Mathlib.Omega.{arith}
-use native.Mathlib.Decide.{ℕ_discrete, dec_lt}
-use mathlib.Core.Path.{◌≡◌, refl, sym, ap, ◌∙◌}
-use mathlib.Core.Bool.{Bool, true, false, not, ◌||◌, false≢true}
-use mathlib.Core.List.{List, [], ◌∷◌, ◌++◌, map}
-use lib.Dec.{eqb}
-use lib.ListN.{length, get_or, length-append}
+use Rattle.std.proofs.Common.{ℕ, suc, ◌+◌, ◌≤◌, ◌<◌, arith, ◌≡◌, refl, sym, ap, ◌∙◌, Bool, true, false, not, ◌||◌, List, [], ◌∷◌, ◌++◌, map, eqb, length, get_or, length-append}
+use Rattle.std.proofs.Math.Decide.{ℕ_discrete, dec_lt}
+use Rattle.std.proofs.lemmas.Bool.{false≢true}
 use Rattle.spec_text.specs.Bytes.{Part}
 use Rattle.spec_text.specs.Tree.{Line, Expr, Exprs, Attrs, Stmt, Stmts, Methods, Tree, var, node, access, tuple, call, lambda, enil, econs, anil, acons, simple, assign, block, choice, for, def, class, snil, scons, mnil, mcons}
 use Rattle.work_rows.specs.Rows.{Row, row, global_row, rows_e, rows_es, rows_as, rows_s, rows_ss, rows_ms, rows_t}
@@ -30,7 +25,7 @@ abbrev pub Fits : List Row → Type 0
 Fits [] = Unit {0}
 Fits (x ∷ xs) = (x.below ≤ length xs) × (x.line.word ≡ 21 → 0 < x.below) × Fits xs
 
-pub fits_append : (a b : List Row) → Fits a → Fits b → Fits (a ++ b)
+fits_append : (a b : List Row) → Fits a → Fits b → Fits (a ++ b)
 fits_append [] b p q = q
 fits_append (x ∷ a) b p q = (omega (arith, length-append a b, p.0), p.1, fits_append a b p.2 q)
 
@@ -48,11 +43,11 @@ mutual
       (omega (arith, (both (sized_e f) (sized_es es)).count), λ e. omega arith, fits_append (rows_e f) (rows_es es) (fits_e f w.1.0) (fits_es es w.1.1))
   fits_e (lambda l e) w = (omega (arith, (sized_e e).count), λ e. omega arith, fits_e e w.1.1)
 
-  pub fits_es : (es : Exprs) → WordedEs es → Fits (rows_es es)
+  fits_es : (es : Exprs) → WordedEs es → Fits (rows_es es)
   fits_es enil w = tt
   fits_es (econs e es) w = fits_append (rows_e e) (rows_es es) (fits_e e w.0) (fits_es es w.1)
 
-pub fits_as : (ats : Attrs) → WordedAs ats → Fits (rows_as ats)
+fits_as : (ats : Attrs) → WordedAs ats → Fits (rows_as ats)
 fits_as anil w = tt
 fits_as (acons l e ats) w =
     (omega (arith, length-append (rows_e e) (rows_as ats), (sized_e e).count), λ e. omega (arith, w.0), fits_append (rows_e e) (rows_as ats) (fits_e e w.1.0) (fits_as ats w.1.1))
@@ -78,7 +73,7 @@ mutual
   fits_ss snil w = tt
   fits_ss (scons s ss) w = fits_append (rows_s s) (rows_ss ss) (fits_s s w.0) (fits_ss ss w.1)
 
-  pub fits_ms : (ms : Methods) → WordedMs ms → Fits (rows_ms ms)
+  fits_ms : (ms : Methods) → WordedMs ms → Fits (rows_ms ms)
   fits_ms mnil w = tt
   fits_ms (mcons l b ms) w = (
     omega (arith, length-append (rows_ss b) (rows_ms ms), (sized_ss b).count),

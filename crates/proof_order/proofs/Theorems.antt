@@ -1,12 +1,8 @@
 -- The entries that are listed from the slots are the faults of the tree, one for one and in the report's order.
 -- Each fault is right by its rows; of what is listed at a row, each entry shows one of the faults that have it as their place.
 -- Where no slot has a fault, there is no entry.
-use Prim.Native.Nat.{ℕ, zero, suc, ◌-◌, ◌≤◌, ◌<◌}
-use native.Mathlib.Omega.{arith}
-use mathlib.Core.Path.{◌≡◌, refl, sym, subst}
-use mathlib.Core.Bool.{false}
-use mathlib.Core.List.{List, [], map, append-nil}
-use lib.ListN.{length, length-map}
+use Rattle.std.proofs.Common.{ℕ, zero, suc, ◌-◌, ◌≤◌, ◌<◌, arith, ◌≡◌, refl, sym, subst, false, List, [], map, append-nil, length}
+use Rattle.std.proofs.lemmas.List.{length-map}
 use Rattle.spec_text.specs.Bytes.{Bytes}
 use Rattle.spec_text.specs.Tree.{Tree, len_ss, first_line}
 use Rattle.spec_faults.specs.Faults.{Fault, by_place, faults}
