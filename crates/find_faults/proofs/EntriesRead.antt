@@ -1,16 +1,10 @@
 -- Entries that are written where the stamps were: each is read there again, and what stands before them stays. So a row's line is read as before.
-use Rattle.std.proofs.Common.{ℕ, zero, suc, ◌+◌, ◌%◌, ◌≤◌, ◌<◌, arith, ◌≡◌, refl, ap, ◌∙◌, List, [], ◌∷◌, length, get_or, length-set, get_or-set_same, get_or-set_other}
+use Rattle.std.proofs.Common.{ℕ, zero, suc, ◌+◌, ◌%◌, ◌≤◌, ◌<◌, arith, ◌≡◌, ap, ◌∙◌, List, [], ◌∷◌, length, get_or, length-set, get_or-set_same}
 use Rattle.spec_text.specs.Bytes.{Bytes}
 use Rattle.work_rows.specs.Layout.{put}
 use Rattle.report_order.specs.OrderModel.{entry_base, stored}
+use Rattle.report_order.proofs.Stored.{stored_before}
 use Rattle.read_row.specs.RowModel.{line_of_row}
-
--- what stands before the j-th
-stored_before : (es : List ℕ) (j : ℕ) (w : List ℕ) (k : ℕ) → k < 12_288 + j → get_or (stored es j w) k 0 ≡ get_or w k 0
-unfolding stored
-stored_before [] j w k l = refl
-stored_before (e ∷ es) j w k l =
-    stored_before es (j + 1) (put w (entry_base + j) e) k (omega arith) ∙ get_or-set_other w (entry_base + j) k _ 0 (λ d. omega arith)
 
 -- the i-th of those that are written from the j-th on
 stored_at : (es : List ℕ) (j : ℕ) (w : List ℕ) (i : ℕ) → i < length es → 12_288 + j + length es ≤ length w → get_or es i 0 < 4_294_967_296

@@ -1,8 +1,8 @@
 -- Each fault of a tree fits its text: its name and its class name are parts of the text of at most 63 bytes, or absent; its kind and its span
 -- are within their limits. For what a fault shows stands in rows (`Right`), and each row's line is read again where it starts.
 use Rattle.std.proofs.Common.{ℕ, zero, suc, ◌-◌, ◌≤◌, ◌<◌, arith, ◌≡◌, refl, sym, subst, Bool, true, false, not, ◌||◌, List, [], ◌∷◌, eqb, length, eqb-true, le-leb, leb-true}
-use native.Mathlib.Decide.{ℕ_discrete}
-use mathlib.Core.Option.{some}
+use Rattle.std.proofs.Math.Decide.{ℕ_discrete}
+use Rattle.std.proofs.Math.Option.{some}
 use Rattle.spec_text.specs.Bytes.{Bytes, Part, no_part, all, is_name, is_name_byte, is_digit}
 use Rattle.spec_text.specs.Tree.{Tree, len_ss, first_line}
 use Rattle.spec_text.specs.Reading.{tree, reading}
@@ -84,7 +84,7 @@ fault_of_lem (also h r) (suc j) f e = fault_of_lem r j f e
 
 -- ---- those of a tree
 module _ (text : Bytes) (work : ℕ) (t : Tree) (e : reading text work ≡ tree t) where
-  pub row_fits : (i : ℕ) → i < length (rows_t t) → LineIn text (row_at t i).line
+  row_fits : (i : ℕ) → i < length (rows_t t) → LineIn text (row_at t i).line
   row_fits i l = let a = rows_again text work t e i l in subst (LineIn text) a.line (a.fits.word, a.fits.fits)
 
   row_named : (i : ℕ) → i < length (rows_t t) → Named text (row_at t i).line.name

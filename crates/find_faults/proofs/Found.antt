@@ -1,6 +1,6 @@
 -- The whole: a text that is a tree is read into rows, the walk leaves the kind of each fault in the slot of its row, and the entries listed from
 -- the slots show the faults. What the walk keeps of the rows is what entries and records are read by.
-use Rattle.std.proofs.Common.{ℕ, ◌≤◌, ◌<◌, arith, ◌≡◌, refl, sym, ap, subst, false, List, [], length, Ok}
+use Rattle.std.proofs.Common.{ℕ, ◌≤◌, ◌<◌, arith, ◌≡◌, refl, sym, ap, ap₂, subst, false, List, [], length, Ok}
 use Rattle.spec_text.specs.Bytes.{Bytes}
 use Rattle.spec_text.specs.Tree.{Tree, len_ss}
 use Rattle.spec_text.specs.Reading.{Reading, tree, refusal, reading}
@@ -12,6 +12,7 @@ use Rattle.work_rows.specs.Rows.{rows_t}
 use Rattle.read_tree.specs.Laid.{Holds, Answers}
 use Rattle.read_tree.specs.declared.Tree.{Tree as Counts}
 use Rattle.work_marks.proofs.Writes.{Words, Kept}
+use Rattle.read_bytes.specs.declared.name_part.NamePart.{NamePart}
 use Rattle.read_row.specs.RowModel.{line_of_row}
 use Rattle.read_row.specs.Worded.{WordedSs}
 use Rattle.read_row.proofs.Theorems.{tree_worded, line_again}
@@ -60,7 +61,7 @@ module _ (text : Bytes) (work : ℕ) (t : Tree) (e : reading text work ≡ tree 
   unfolding line_of_row
   line i l =
       let a = line_again text work t e w h i l in
-      rw (kept.seconds i (omega (arith, table.few))) (record { start = a.start; end = a.end; name = a.name; len = a.len })
+      rw (kept.seconds i (omega (arith, table.few))) (record { start = a.start; end = a.end; name = ap₂ {C = NamePart} (λ (k n : ℕ). record { offset = k; len = n }) a.name a.len })
 
   finds : Finds text (tree t) (stored listed 0 after) (Ok (length listed))
   finds = record {

@@ -1,9 +1,9 @@
 -- Entries that show faults, one for one, written into a buffer that holds the rows of a text: each is read as a record of the seven numbers of
 -- its fault. For the lines of its two rows are read again as they are, and the record takes from them what the fault shows.
 use Rattle.std.proofs.Common.{ℕ, zero, suc, ◌≤◌, ◌<◌, arith, ◌≡◌, refl, sym, ap, ◌∙◌, subst, Bool, true, false, cond, List, eqb, length, get_or, eqb-true}
-use mathlib.Core.Option.{some}
-use borrow.Author.Tests.{eqb-false}
-use Rattle.spec_text.specs.Bytes.{Bytes, Part}
+use Rattle.std.proofs.Math.Option.{some}
+use Rattle.std.proofs.lemmas.Bool.{eqb-false}
+use Rattle.spec_text.specs.Bytes.{Bytes, Part, no_part}
 use Rattle.spec_text.specs.Tree.{Line}
 use Rattle.spec_faults.specs.declared.fault_kind.FaultKind.{FaultKind}
 use Rattle.spec_faults.specs.Kinds.{kind_number}
@@ -11,14 +11,19 @@ use Rattle.spec_faults.specs.KindsModel.{kind_by_number}
 use Rattle.spec_faults.specs.Faults.{Fault, record7}
 use Rattle.spec_faults.proofs.FaultKinds.{FromEight}
 use Rattle.spec_answers.specs.Answers.{nth_fault}
+use Rattle.read_bytes.specs.declared.name_part.NamePart.{NamePart}
 use Rattle.read_line.specs.declared.Line.{Line as Numbers}
 use Rattle.read_row.specs.RowModel.{line_of_row}
 use Rattle.report_order.specs.OrderModel.{stored, entry_at}
 use Rattle.spec_faults.proofs.KindNumbers.{number_again}
-use Rattle.report_records.specs.RecordsModel.{of_lines, record_of, numbers}
+use Rattle.report_records.specs.RecordsModel.{absent, of_lines, record_of, numbers}
 use Rattle.proof_order.specs.Shown.{Shows, Pairs, line_in, of_entry, row_entry}
 use Rattle.work_rows.specs.Rows.{Row}
 use Rattle.find_faults.proofs.EntriesRead.{entry_stored, line_stored}
+
+-- where a part of the text stands
+abbrev pub place : Part → NamePart
+place x = record { offset = x.offset; len = length x.bytes }
 
 -- ---- one for one
 module _ {A B : Type 0} {R : A → B → Type 0} where
@@ -32,39 +37,36 @@ pair_at {R} (Pairs.pair {a = n} {b = g} h p) zero f e = let q : g ≡ f = cc in 
 pair_at (Pairs.pair h p) (suc j) f e = let k = pair_at p j f e in (omega (arith, k.0), k.1)
 
 -- ---- a record, from the lines of its two rows
-picked : (k c m n : ℕ) → (k ≡ c → m ≡ n) → ((k ≡ c → ⊥) → n ≡ 0) → cond (eqb k c) m 0 ≡ n
-picked k c m n is not = go (eqb k c) refl
-  where
-    go : (b : Bool) → eqb k c ≡ b → cond b m 0 ≡ n
-    go true e = is (eqb-true k c e)
-    go false e = sym (not (eqb-false k c e))
+-- where a name stands that is shown in place of none, or none in place of it
+module _ (k c : ℕ) (m : NamePart) (x : Part) where
+  picked : (k ≡ c → m ≡ place x) → ((k ≡ c → ⊥) → x ≡ no_part) → cond (eqb k c) m absent ≡ place x
+  picked is not = go (eqb k c) refl
+    where
+      go : (b : Bool) → eqb k c ≡ b → cond b m absent ≡ place x
+      go true e = is (eqb-true k c e)
+      go false e = sym (ap place (not (eqb-false k c e)))
 
-left : (k c m n : ℕ) → ((k ≡ c → ⊥) → m ≡ n) → (k ≡ c → n ≡ 0) → cond (eqb k c) 0 m ≡ n
-left k c m n not is = go (eqb k c) refl
-  where
-    go : (b : Bool) → eqb k c ≡ b → cond b 0 m ≡ n
-    go true e = sym (is (eqb-true k c e))
-    go false e = not (eqb-false k c e)
+  left : ((k ≡ c → ⊥) → m ≡ place x) → (k ≡ c → x ≡ no_part) → cond (eqb k c) absent m ≡ place x
+  left not is = go (eqb k c) refl
+    where
+      go : (b : Bool) → eqb k c ≡ b → cond b absent m ≡ place x
+      go true e = sym (ap place (is (eqb-true k c e)))
+      go false e = not (eqb-false k c e)
 
 -- a line as it is read again
 pub record Reads (l : Line) (n : Numbers) : Type 0 where
   pub start : n.start ≡ l.start
   pub end : n.end ≡ l.end
-  pub name : n.name ≡ l.name.offset
-  pub len : n.len ≡ length l.name.bytes
+  pub name : n.name ≡ place l.name
 
 lines_show : (rows : List Row) (e : ℕ) (f : Fault) (k : FaultKind) (of row : Numbers) → kind_number k ≡ f.kind → Shows rows e f → Reads (line_in rows (of_entry e)) of
     → Reads (line_in rows (row_entry e)) row → numbers (of_lines k of row) ≡ record7 f
 lines_show rows e f k of row is s a b =
-    let offset : Part → ℕ = λ x. x.offset in
-    let size : Part → ℕ = λ x. length x.bytes in
-    let q1 : of.start ≡ f.start = a.start ∙ s.start in
-    let q2 : of.end ≡ f.end = a.end ∙ s.end in
-    let q3 : cond (eqb f.kind 14) 0 row.name ≡ f.name.offset = left f.kind 14 _ _ (λ d. b.name ∙ ap offset (s.name d)) (λ d. ap offset (s.no_name d)) in
-    let q4 : cond (eqb f.kind 14) 0 row.len ≡ length f.name.bytes = left f.kind 14 _ _ (λ d. b.len ∙ ap size (s.name d)) (λ d. ap size (s.no_name d)) in
-    let q5 : cond (eqb f.kind 15) of.name 0 ≡ f.in_class.offset = picked f.kind 15 _ _ (λ d. a.name ∙ ap offset (s.class d)) (λ d. ap offset (s.no_class d)) in
-    let q6 : cond (eqb f.kind 15) of.len 0 ≡ length f.in_class.bytes = picked f.kind 15 _ _ (λ d. a.len ∙ ap size (s.class d)) (λ d. ap size (s.no_class d)) in
-    rw (is, q1, q2, q3, q4, q5, q6)
+    let start : of.start ≡ f.start = a.start ∙ s.start in
+    let end : of.end ≡ f.end = a.end ∙ s.end in
+    let name : cond (eqb f.kind 14) absent row.name ≡ place f.name = left f.kind 14 _ _ (λ d. b.name ∙ ap place (s.name d)) s.no_name in
+    let class : cond (eqb f.kind 15) of.name absent ≡ place f.in_class = picked f.kind 15 _ _ (λ d. a.name ∙ ap place (s.class d)) s.no_class in
+    rw (is, start, end, name, class)
 
 -- ---- the entry j
 module _ (text : Bytes) (rows : List Row) (w : List ℕ) (few : length rows ≤ 4_096) (room : 16_384 ≤ length w)

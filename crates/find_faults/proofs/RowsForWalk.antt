@@ -1,8 +1,8 @@
 -- A work buffer that holds the rows of a tree has what the walk reads of them: kinds, lines below, parameters, and a number for each name, the
 -- earliest row that has it. What leads back from the buffer to a line is crate `read_row`'s; that two names have two numbers is that a row has one name.
 use Rattle.std.proofs.Common.{ℕ, ◌+◌, ◌%◌, ◌<◌, arith, ◌≡◌, sym, ap, ◌∙◌, subst, ◌⊎◌, inl, inr, List, [], map, length, get_or}
-use mathlib.Core.Bool.{false≢true}
-use lib.ListN.{length-map}
+use Rattle.std.proofs.lemmas.Bool.{false≢true}
+use Rattle.std.proofs.lemmas.List.{length-map}
 use Rattle.spec_text.specs.Bytes.{Bytes, Part, is_name}
 use Rattle.spec_text.specs.Tree.{Tree}
 use Rattle.spec_text.specs.Reading.{tree, reading}

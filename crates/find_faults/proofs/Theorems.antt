@@ -1,6 +1,6 @@
 -- The theorems about what is found, in one place: of each fault of a tree, name and class name are parts of its text, and short.
 use Rattle.std.proofs.Common.{ℕ, ◌≤◌, ◌≡◌, length}
-use mathlib.Core.Option.{some}
+use Rattle.std.proofs.Math.Option.{some}
 use Rattle.spec_text.specs.Bytes.{Bytes, no_part}
 use Rattle.spec_text.specs.Tree.{Tree}
 use Rattle.spec_text.specs.Reading.{tree, reading}

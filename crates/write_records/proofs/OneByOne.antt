@@ -1,6 +1,7 @@
 -- What is written over an output buffer from its start: one record after the other.
-use Rattle.std.proofs.Common.{ℕ, zero, suc, ◌+◌, ◌*◌, arith, add-one, add-zero, zero-add, ◌≡◌, refl, sym, ap, ◌∙◌, List, ◌++◌, append_assoc, length, take, drop, length-append, drop-drop}
-use lib.Seq.{take-append_seam, drop-append-add}
+use Rattle.std.proofs.Common.{ℕ, zero, suc, ◌+◌, ◌*◌, arith, add-one, add-zero, zero-add, ◌-◌, ◌≤◌, ◌≡◌, refl, sym, ap, ◌∙◌, List, [], ◌++◌, append_assoc, append-nil, length, take, drop, length-append, length-drop, drop-drop, take_all}
+use Rattle.std.proofs.lemmas.List.{drop_all}
+use Rattle.std.proofs.Math.Seq.{take-append_seam, drop-append-add}
 use Rattle.spec_text.specs.Bytes.{Bytes}
 use Rattle.spec_answers.specs.Answers.{over}
 use Rattle.report_records.specs.RecordsModel.{numbers32}
@@ -39,11 +40,31 @@ module _ (text : Bytes) (w : List ℕ) where
       sym (rw (add-one, records_more n 0, zero-add)) in
       rw (← records_length n 0) (over_more (records_of text w 0 n) (numbers32 (record_at text w n)) old) ∙ ap (λ ns. over ns old) e
 
-  -- a turn: record j is written after those before it
-  pub turn : (old : List ℕ) {out out' : List ℕ} {r : Record} (j : ℕ) → out ≡ over (records_of text w 0 j) old → r ≡ record_at text w j
-      → out' ≡ take (7 * j) out ++ (numbers32 r ++ drop (7 * j + 7) out) → out' ≡ over (records_of text w 0 (j + 1)) old
-  turn old {out} {out'} {r} j e f g =
-      g
-      ∙ ap (λ x. take (7 * j) out ++ (numbers32 x ++ drop (7 * j + 7) out)) f
-      ∙ ap (λ l. take (7 * j) l ++ (numbers32 (record_at text w j) ++ drop (7 * j + 7) l)) e
-      ∙ over_record old j
+  -- a turn: record j is put to what is left of the output, after those before it
+  module _ (old out : List ℕ) (j : ℕ) (room : 7 * j + 7 ≤ length out) where
+    abbrev rest : List ℕ
+    rest = drop (7 * j) out
+
+    abbrev left : ℕ
+    left = length out - 7 * j
+
+    rest_length : length rest ≡ left
+    rest_length = length-drop (7 * j) out
+
+    put_rest : (r : Record) {part : List ℕ} → part ≡ take (length (take left rest)) (numbers32 r) ++ drop 7 (take left rest)
+        → take (7 * j) out ++ (part ++ drop left rest) ≡ take (7 * j) out ++ (numbers32 r ++ drop (7 * j + 7) out)
+    put_rest r e =
+        let all : take left rest ≡ rest = take_all left rest (omega (arith, rest_length)) in
+        let none : drop left rest ≡ [] = drop_all left rest (omega (arith, rest_length)) in
+        let seven : take (length rest) (numbers32 r) ≡ numbers32 r = take_all (length rest) (numbers32 r) (omega (arith, rest_length)) in
+        let past : drop 7 rest ≡ drop (7 * j + 7) out = drop-drop 7 (7 * j) out in
+        rw (e, none, all, seven, past, append-nil (drop (7 * j + 7) out))
+
+    pub turn : {r : Record} {part : List ℕ} → out ≡ over (records_of text w 0 j) old → r ≡ record_at text w j
+        → part ≡ take (length (take left rest)) (numbers32 r) ++ drop 7 (take left rest)
+        → take (7 * j) out ++ (part ++ drop left rest) ≡ over (records_of text w 0 (j + 1)) old
+    turn {r} e f g =
+        put_rest r g
+        ∙ ap (λ x. take (7 * j) out ++ (numbers32 x ++ drop (7 * j + 7) out)) f
+        ∙ ap (λ l. take (7 * j) l ++ (numbers32 (record_at text w j) ++ drop (7 * j + 7) l)) e
+        ∙ over_record old j
