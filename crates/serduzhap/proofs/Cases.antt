@@ -1,20 +1,23 @@
 -- The answers of the calls by their cases: `find` answers by a count or a refusal, and what each call makes of it is what is defined.
-use Rattle.std.proofs.Common.{ℕ, ◌*◌, ◌-◌, ◌<◌, ◌≤◌, arith, ◌≡◌, refl, sym, ap, subst, List, [], ◌∷◌, length, lt-ltb, le-ltb, le-leb, Ok}
+use Rattle.std.proofs.Common.{ℕ, ◌*◌, ◌-◌, ◌<◌, ◌≤◌, arith, ◌≡◌, refl, sym, ap, subst, List, [], ◌∷◌, length, lt-ltb, le-ltb, le-leb, Result, Ok, Err}
+use Rattle.std.specs.Result.{result_unwrap_or}
 use Rattle.spec_text.specs.Bytes.{Bytes, Part, part_of}
+use Rattle.spec_text.specs.declared.refusal.Refused.{Refused}
 use Rattle.spec_text.specs.Tree.{Tree}
 use Rattle.spec_text.specs.Reading.{Reading, tree, refusal}
 use Rattle.spec_faults.specs.Faults.{Fault, faults, records}
 use Rattle.spec_answers.specs.Answers.{written, faulty, refused, first_record, check_of, Outcome, over, refusing, reported, report_of, wrote_if, message_or, message_in, nth_fault, name_of, name_in}
-use Rattle.report_records.specs.RecordsModel.{numbers}
+use Rattle.read_bytes.specs.declared.name_part.NamePart.{NamePart}
+use Rattle.report_records.specs.RecordsModel.{numbers, absent}
 use Rattle.report_messages.specs.MessagesModel.{record_message}
 use Rattle.find_faults.specs.Found.{Finds, Kept, Listed}
 use Rattle.serduzhap.specs.Calls.{Gives, part_says}
 use Rattle.write_records.specs.WriteModel.{records_of, record_at}
-use Rattle.serduzhap.proofs.FaultWritten.{part_at, records_shown, name_shown, place_shown, message_shown, at_none, at_some}
+use Rattle.serduzhap.proofs.FaultWritten.{records_shown, name_shown, place_shown, message_shown, at_none, at_some}
 
--- ---- an offset and a length that are a name's, and the part of the text that they show
-abbrev pub Names : Bytes → ℕ → ℕ → Part → Type 0
-Names text k n x = (part_at k n ≡ part_says x) × (part_of text k n ≡ x.bytes)
+-- ---- where a name stands, and the part of the text that is there
+abbrev pub Names : Bytes → NamePart → Part → Type 0
+Names text p x = (p ≡ part_says x) × (part_of text p.offset p.len ≡ x.bytes)
 
 no_part : (text : Bytes) → part_of text 0 0 ≡ []
 no_part text = rw (le-leb 0 (length text) (omega arith), le-leb 0 (length text - 0) (omega arith))
@@ -48,9 +51,9 @@ module _ (text : Bytes) (w : List ℕ) (fs : List Fault) (s : Listed text fs w) 
     message_at m =
         at_some (λ o. wrote_if m (record_message text (record_at text w i)) ≡ message_or m o) fs i l (λ f e. ap (wrote_if m) (message_shown text w (s i f e)))
 
-    name_at_lem : Names text (record_at text w i).name (record_at text w i).name_len (name_of (nth_fault fs i))
+    name_at_lem : Names text (record_at text w i).name (name_of (nth_fault fs i))
     name_at_lem =
-        at_some (λ o. Names text (record_at text w i).name (record_at text w i).name_len (name_of o)) fs i l
+        at_some (λ o. Names text (record_at text w i).name (name_of o)) fs i l
         (λ f e. (place_shown text w (s i f e), name_shown text w (s i f e)))
 
 -- ---- a count is a tree's
@@ -88,9 +91,23 @@ module _ {text : Bytes} {x : Reading} {w : List ℕ} {n : ℕ} (f : Finds text x
     message_some =
         of_tree (λ n y. i < n → (m : ℕ) → wrote_if m (record_message text (record_at text w i)) ≡ message_in i m y) (λ t k. message_at text w (faults t) k.0 i)
 
-    pub name_none : n ≤ i → Names text 0 0 (name_in i x)
-    name_none = of_tree (λ n y. n ≤ i → Names text 0 0 (name_in i y)) (λ t k l. at_none (λ o. Names text 0 0 (name_of o)) (faults t) i l (refl, no_part text))
+    name_none : n ≤ i → Names text absent (name_in i x)
+    name_none = of_tree (λ n y. n ≤ i → Names text absent (name_in i y)) (λ t k l. at_none (λ o. Names text absent (name_of o)) (faults t) i l (refl, no_part text))
 
-    pub name_some : i < n → Names text (record_at text w i).name (record_at text w i).name_len (name_in i x)
+    name_some : i < n → Names text (record_at text w i).name (name_in i x)
     name_some =
-        of_tree (λ n y. i < n → Names text (record_at text w i).name (record_at text w i).name_len (name_in i y)) (λ t k. name_at_lem text w (faults t) k.0 i)
+        of_tree (λ n y. i < n → Names text (record_at text w i).name (name_in i y)) (λ t k. name_at_lem text w (faults t) k.0 i)
+
+-- ---- of any answer: a text that is refused has no name
+module _ {text : Bytes} {w : List ℕ} (i : ℕ) where
+  refused_name : (x : Reading) (e : Refused) → Finds text x w (Err e) → Names text absent (name_in i x)
+  refused_name (tree t) e f = let z : ◌≡◌ {A = ℕ} 0 1 = cc f.answer in absurd (omega arith)
+  refused_name (refusal k l) e f = (refl, no_part text)
+
+  pub name_if_none : (x : Reading) (r : Result ℕ Refused) → Finds text x w r → result_unwrap_or r 0 ≤ i → Names text absent (name_in i x)
+  name_if_none x (Ok n) f l = name_none f i l
+  name_if_none x (Err e) f l = refused_name x e f
+
+  pub name_if_some : (x : Reading) (r : Result ℕ Refused) → Finds text x w r → i < result_unwrap_or r 0 → Names text (record_at text w i).name (name_in i x)
+  name_if_some x (Ok n) f l = name_some f i l
+  name_if_some x (Err e) f l = absurd (omega arith)

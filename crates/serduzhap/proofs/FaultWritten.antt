@@ -1,19 +1,19 @@
 -- What a fault's entry gives, where it shows the fault: the record as it is written, the message and the name. And the records of all entries are
 -- the full report.
 use Rattle.std.proofs.Common.{ℕ, zero, suc, ◌+◌, ◌%◌, ◌<◌, ◌≤◌, arith, ◌≡◌, refl, ap, ap₂, subst, ◌∙◌, List, [], ◌∷◌, ◌++◌, map, length}
-use mathlib.Core.Option.{Option, none, some}
+use Rattle.std.proofs.Math.Option.{Option, none, some}
 use Rattle.spec_text.specs.Bytes.{Bytes, part_of}
 use Rattle.spec_faults.specs.Faults.{Fault, record7, records}
 use Rattle.spec_faults.specs.Faults as F
 use Rattle.spec_faults.specs.Kinds.{kind_number}
 use Rattle.spec_answers.specs.Answers.{nth_fault}
+use Rattle.read_bytes.specs.declared.name_part.NamePart.{NamePart}
 use Rattle.report_records.specs.RecordsModel.{numbers, numbers32}
 use Rattle.report_records.specs.declared.Record.{Record}
 use Rattle.report_messages.specs.MessagesModel.{record_message}
 use Rattle.find_faults.specs.Found.{Shown, Shows, Listed}
 use Rattle.serduzhap.specs.Calls.{part_says}
 use Rattle.write_records.specs.WriteModel.{record_at, records_of}
-use Rattle.serduzhap.specs.declared.NamePart.{NamePart}
 
 -- ---- fault i: there is none from the number of faults on
 module _ (P : Option Fault → Type 0) where
@@ -36,48 +36,45 @@ module _ (a b c d e f g : ℕ) (ha : a < 16) (hb : b < 4_294_967_296) (hc : c < 
   seven_small : map (λ (n : ℕ). n % 4_294_967_296) (a ∷ b ∷ c ∷ d ∷ e ∷ f ∷ g ∷ []) ≡ a ∷ b ∷ c ∷ d ∷ e ∷ f ∷ g ∷ []
   seven_small = rw (small a (omega arith), small b hb, small c hc, small d hd, small e he, small f hf, small g hg)
 
-abbrev pub part_at : ℕ → ℕ → NamePart
-part_at k n = record { offset = k; len = n }
-
 -- ---- a record that has a fault's numbers
 module _ (text : Bytes) (r : Record) (f : Fault) (e : numbers r ≡ record7 f) where
-  name_of : Shown text f.name → part_of text r.name r.name_len ≡ f.name.bytes
+  name_of : Shown text f.name → part_of text r.name.offset r.name.len ≡ f.name.bytes
   name_of h =
-      let a : r.name ≡ f.name.offset = cc in
-      let b : r.name_len ≡ length f.name.bytes = cc in
-      ap (λ k. part_of text k r.name_len) a ∙ ap (part_of text f.name.offset) b ∙ h
+      let a : r.name.offset ≡ f.name.offset = cc in
+      let b : r.name.len ≡ length f.name.bytes = cc in
+      ap (λ k. part_of text k r.name.len) a ∙ ap (part_of text f.name.offset) b ∙ h
 
-  place_of : part_at r.name r.name_len ≡ part_says f.name
+  place_of : r.name ≡ part_says f.name
   place_of =
-      let a : r.name ≡ f.name.offset = cc in
-      let b : r.name_len ≡ length f.name.bytes = cc in
-      ap₂ (λ (k n : ℕ). part_at k n) a b
+      let a : r.name.offset ≡ f.name.offset = cc in
+      let b : r.name.len ≡ length f.name.bytes = cc in
+      ap₂ {C = NamePart} (λ (k n : ℕ). record { offset = k; len = n }) a b
 
-  class_of : Shown text f.in_class → part_of text r.class r.class_len ≡ f.in_class.bytes
+  class_of : Shown text f.in_class → part_of text r.class.offset r.class.len ≡ f.in_class.bytes
   class_of h =
-      let a : r.class ≡ f.in_class.offset = cc in
-      let b : r.class_len ≡ length f.in_class.bytes = cc in
-      ap (λ k. part_of text k r.class_len) a ∙ ap (part_of text f.in_class.offset) b ∙ h
+      let a : r.class.offset ≡ f.in_class.offset = cc in
+      let b : r.class.len ≡ length f.in_class.bytes = cc in
+      ap (λ k. part_of text k r.class.len) a ∙ ap (part_of text f.in_class.offset) b ∙ h
 
   message_of_lem : Shown text f.name → Shown text f.in_class → record_message text r ≡ F.message_of f
   message_of_lem h i =
       let k : kind_number r.kind ≡ f.kind = cc in
-      ap (λ k'. F.message k' (part_of text r.name r.name_len) (part_of text r.class r.class_len)) k
-      ∙ ap (λ n. F.message f.kind n (part_of text r.class r.class_len)) (name_of h)
+      ap (λ k'. F.message k' (part_of text r.name.offset r.name.len) (part_of text r.class.offset r.class.len)) k
+      ∙ ap (λ n. F.message f.kind n (part_of text r.class.offset r.class.len)) (name_of h)
       ∙ ap (F.message f.kind f.name.bytes) (class_of i)
 
 -- ---- an entry that shows a fault
 module _ (text : Bytes) (w : List ℕ) where
   module _ {j : ℕ} {f : Fault} (s : Shows text w j f) where
-    pub words_shown : numbers32 (record_at text w j) ≡ record7 f
+    words_shown : numbers32 (record_at text w j) ≡ record7 f
     words_shown =
         ap (map (λ (n : ℕ). n % 4_294_967_296)) s.record'
         ∙ seven_small _ _ _ _ _ _ _ s.kind s.start s.end s.name_at s.name_len s.class_at s.class_len
 
-    pub name_shown : part_of text (record_at text w j).name (record_at text w j).name_len ≡ f.name.bytes
+    pub name_shown : part_of text (record_at text w j).name.offset (record_at text w j).name.len ≡ f.name.bytes
     name_shown = name_of text (record_at text w j) f s.record' s.name
 
-    pub place_shown : part_at (record_at text w j).name (record_at text w j).name_len ≡ part_says f.name
+    pub place_shown : (record_at text w j).name ≡ part_says f.name
     place_shown = place_of text (record_at text w j) f s.record'
 
     pub message_shown : record_message text (record_at text w j) ≡ F.message_of f

@@ -1,6 +1,6 @@
 -- What is written over an output buffer from its start: a message that fits.
 use Rattle.std.proofs.Common.{ℕ, ◌≤◌, ◌<◌, arith, zero-add, ◌≡◌, refl, sym, ap, subst, [], length, take_all, lt-ltb, le-ltb}
-use native.Mathlib.Nat.{sub-zero}
+use Rattle.std.proofs.Math.Nat.{sub-zero}
 use Rattle.spec_text.specs.Bytes.{Bytes}
 use Rattle.spec_answers.specs.Answers.{written, refused, Outcome, over, refusing, wrote_if}
 use Rattle.write_bytes.specs.PushModel.{bytes_pushed}

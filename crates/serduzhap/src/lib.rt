@@ -2,13 +2,15 @@
 // walk it, and list its faults.
 #![tactic(auto)]
 
-ghost use Rattle.std.specs.Prelude.{◌≡◌, ◌<◌, ◌*◌, length};
+ghost use Rattle.std.specs.Prelude.{◌≡◌, ◌<◌, get_or, length};
 ghost use Rattle.spec_answers.specs.Answers.{wrote_if, name};
 ghost use Rattle.report_messages.specs.MessagesModel.{record_message};
 ghost use Rattle.serduzhap.specs.declared.ReportError.TheVariants as R;
 ghost use Rattle.serduzhap.specs.declared.MessageError.TheVariants as M;
-ghost use Rattle.serduzhap.specs.Calls.{Checks, Gives, Reports, message_says, Messages, Names};
+ghost use Rattle.serduzhap.specs.Calls.{Checks, Gives, report_number, report_detail, Reports, message_number, message_values, message_says, Messages, Names};
 
+pub use read_bytes::NamePart;
+use report_messages::Message;
 use report_records::{RECORD, Record};
 use spec_text::Refused;
 use write_bytes::Output;
@@ -18,6 +20,28 @@ use write_bytes::Output;
 pub enum ReportError {
     Refused(Refused),
     OutputTooShort { count: usize },
+}
+
+impl ReportError {
+    // Its number: 1 to 7, or 16.
+    pub fn number(self) -> usize
+        ensures { result ≡ report_number self }
+    {
+        match self {
+            ReportError::Refused(refused) => refused.why.number(),
+            ReportError::OutputTooShort { .. } => 16,
+        }
+    }
+
+    // What goes with it: a line, or the count.
+    pub fn detail(self) -> usize
+        ensures { result ≡ report_detail self }
+    {
+        match self {
+            ReportError::Refused(refused) => refused.line,
+            ReportError::OutputTooShort { count } => count,
+        }
+    }
 }
 
 impl From<Refused> for ReportError {
@@ -36,6 +60,29 @@ pub enum MessageError {
     TooLong,
 }
 
+impl MessageError {
+    // Its number: 1 to 7, 17 or 18.
+    pub fn number(self) -> usize
+        ensures { result ≡ message_number self }
+    {
+        match self {
+            MessageError::Refused(refused) => refused.why.number(),
+            MessageError::NoFault => 17,
+            MessageError::TooLong => 18,
+        }
+    }
+
+    // What goes with it: a line, or 0, since nothing goes with 17 and 18.
+    pub fn detail(self) -> usize
+        ensures { result ≡ get_or (message_values self) 0 0 }
+    {
+        match self {
+            MessageError::Refused(refused) => refused.line,
+            MessageError::NoFault | MessageError::TooLong => 0,
+        }
+    }
+}
+
 impl From<Refused> for MessageError {
     ghost from_gives = { λ r e. e ≡ M.Refused r };
 
@@ -43,16 +90,6 @@ impl From<Refused> for MessageError {
         MessageError::Refused(r)
     }
 }
-
-// A part of the text.
-#[derive(Clone, Copy, PartialEq, Eq)]
-pub struct NamePart {
-    pub offset: usize,
-    pub len: usize,
-}
-
-// Where there is no name.
-const NO_NAME: NamePart = NamePart { offset: 0, len: 0 };
 
 // Accepted, where there is no record; else that of the first fault.
 pub fn check(text: &[u8], work: &mut [u32]) -> Result<Option<Record>, Refused>
@@ -72,7 +109,7 @@ pub fn report(text: &[u8], work: &mut [u32], out: &mut [u32]) -> Result<usize, R
 {
     let count = find_faults::find(text, work)?;
     if out.len() < RECORD * count {
-        return Err(ReportError::OutputTooShort { count: count });
+        return Err(ReportError::OutputTooShort { count });
     }
     write_records::write_records(text, work, out, count);
     Ok(count)
@@ -84,11 +121,12 @@ fn write_message(text: &[u8], out: &mut [u8], r: Record) -> Result<usize, Messag
     requires { length text.now < 4294967296 }
     ensures { Gives (wrote_if (length out.old) (record_message text.now r)) out.old out.new (message_says result) }
 {
-    let len = report_messages::message_len(text, r);
+    let message = Message::of(text, r);
+    let len = message.len();
     if out.len() < len {
         return Err(MessageError::TooLong);
     }
-    report_messages::push_message(text, &mut Output::new(out), r);
+    message.push(&mut Output::new(out));
     Ok(len)
 }
 
@@ -108,27 +146,22 @@ pub fn message(
     write_message(text, out, find_faults::record_at(text, work, i))
 }
 
-// Where the name of fault i stands in the text; 0, 0 where there is none.
+// Where the name of fault i stands in the text.
+// Kept: no Option and no Result, since the documents say: "The part is empty, at offset 0, for kind 14, for any of
+// refusals 1 to 7 and where no fault i exists".
 pub fn name_part(text: &[u8], work: &mut [u32], i: usize) -> NamePart
     ensures { Names text.now (length work.old) i result }
 {
-    match find_faults::find(text, work) {
-        Ok(found) if i < found => {
-            let r = find_faults::record_at(text, work, i);
-            NamePart {
-                offset: r.name,
-                len: r.name_len,
-            }
-        }
-        Ok(_) => NO_NAME, // there is no fault i
-        Err(_) => NO_NAME,
+    let count = find_faults::find(text, work).unwrap_or(0);
+    if count <= i {
+        return NamePart::default();
     }
+    find_faults::record_at(text, work, i).name
 }
 
 // The name of fault i, a part of the text; empty where there is none.
 pub fn name<'a>(text: &'a [u8], work: &mut [u32], i: usize) -> &'a [u8]
     ensures { result.now ≡ (name text.now (length work.old) i).bytes }
 {
-    let p = name_part(text, work, i);
-    read_bytes::part(text, p.offset, p.len)
+    name_part(text, work, i).of(text)
 }
