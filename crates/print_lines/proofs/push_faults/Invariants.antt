@@ -1,7 +1,11 @@
--- Line after line. The loop's invariant: the lines of the first j records are pushed.
-use Rattle.write_bytes.specs.OutputModel.{Pushed}
+-- Line after line: the lines that are pushed, and those of the records that are left.
+use Rattle.std.proofs.Common.{◌≡◌}
 use Rattle.print_lines.specs.LinesModel.{record_lines}
+use Rattle.print_lines.proofs.Lines.{Left}
 use Rattle.print_lines.proofs.push_faults.Given as goal
 
-abbrev pub invariant-loop-j : goal.invariant-loop-j
-invariant-loop-j l = Pushed l.initial.output (record_lines l.text l.report 0 l.j) l.output
+abbrev pub invariant-loop-numbers : goal.invariant-loop-numbers
+invariant-loop-numbers l = record {
+  size : l.numbers-iterator.iter.size ≡ 7;
+  left : Left l.text l.numbers-iterator.n l.numbers-iterator.iter.rest.now l.initial.output l.output (record_lines l.text l.count l.report);
+}
