@@ -1,9 +1,9 @@
 -- What is printed for a text has at most 524,288 bytes, so the output buffer of `namecheck` holds it all: at most 2,340 faults are printed, since
 -- the report buffer has no room for more records, each on a line of at most 223 bytes.
 use Rattle.std.proofs.Common.{ℕ, zero, suc, ◌+◌, ◌*◌, ◌/◌, ◌%◌, ◌≤◌, arith, ◌≡◌, refl, ap, ap₂, ◌∙◌, Bool, true, false, List, [], ◌∷◌, ◌++◌, eqb, leb, ltb, length, get_or, take, drop, length-append, take_all, leb-true}
-use native.Mathlib.Decide.{ℕ_discrete}
-use mathlib.Core.Option.{some}
-use lib.Seq.{take-append_seam}
+use Rattle.std.proofs.Math.Decide.{ℕ_discrete}
+use Rattle.std.proofs.Math.Option.{some}
+use Rattle.std.proofs.Math.Seq.{take-append_seam}
 use Rattle.spec_text.specs.Bytes.{Bytes, Part, no_part, all, bytes}
 use Rattle.spec_text.specs.Reading.{shortest_work}
 use Rattle.spec_faults.specs.Faults.{Fault, faults, Words, eight_texts, written, message_from, message_of}

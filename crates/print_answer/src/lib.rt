@@ -4,8 +4,6 @@
 ghost use Rattle.spec_answers.specs.Printed.{printed, Prints};
 ghost use Rattle.write_bytes.specs.OutputModel.{Pushed};
 
-use serduzhap::ReportError;
-use spec_text::refusal;
 use write_bytes::Output;
 
 // The numbers of the report buffer and of the work buffer.
@@ -27,16 +25,12 @@ fn push_printed(
             print_lines::push_faults(text, report, count, output);
             print_lines::push_count(output, count);
         }
-        Err(ReportError::Refused(refused)) => {
-            print_lines::push_refused(output, refused.why.number(), refused.line)
-        }
-        Err(ReportError::OutputTooShort { count }) => {
-            print_lines::push_refused(output, refusal::OUTPUT_TOO_SHORT, count)
-        }
+        Err(error) => print_lines::push_refused(output, error),
     }
 }
 
 // Writes what `namecheck` prints for a text, as much as there is room for, and answers how many bytes.
+// Kept: a length and not the part that is written, as `Read` and `Write` answer one.
 pub fn print(
     text: &[u8],
     work: &mut [u32; WORK],
