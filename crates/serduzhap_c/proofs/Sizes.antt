@@ -1,8 +1,8 @@
 -- How large the numbers of an answer are: lines up to 4,098, counts of faults up to 4,096, messages of up to 183 bytes, names of up to
 -- 63 bytes in a text of up to 65,536. So each number of an answer has 32 bits.
 use Rattle.std.proofs.Common.{ℕ, ◌+◌, ◌*◌, ◌≤◌, arith, ◌≡◌, refl, ap, Bool, true, false, cond, List, [], ◌∷◌, eqb, leb, ltb, length, eqb-true, leb-true}
-use mathlib.Core.Option.{Option, none, some}
-use borrow.Author.Tests.{eqb-false}
+use Rattle.std.proofs.Math.Option.{Option, none, some}
+use Rattle.std.proofs.lemmas.Bool.{eqb-false}
 use Rattle.spec_text.specs.Bytes.{Bytes, Part, no_part, between, all}
 use Rattle.spec_text.specs.Tree.{Tree}
 use Rattle.spec_text.specs.Reading.{Reading, tree, refusal, reading}

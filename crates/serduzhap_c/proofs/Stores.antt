@@ -1,11 +1,16 @@
 -- Numbers that are put one after the other are the whole of an answer of that length; those of 32 bits stay as they are.
-use Rattle.std.proofs.Common.{ℕ, zero, suc, ◌+◌, ◌%◌, ◌-◌, ◌<◌, arith, ◌≡◌, refl, ap, ap₂, ◌∙◌, List, [], ◌∷◌, ◌++◌, length, replicate, get_or}
+use Rattle.std.proofs.Common.{ℕ, zero, suc, ◌+◌, ◌%◌, ◌-◌, ◌<◌, arith, ◌≡◌, refl, ap, ap₂, ◌∙◌, List, [], ◌∷◌, ◌++◌, length, replicate, get_or, take, drop, Ok, Err, Some}
+use Rattle.std.proofs.lemmas.List.{drop_all}
 use Rattle.spec_text.specs.Bytes.{Part}
 use Rattle.spec_text.proofs.Lists.{All, all_nil, all_cons}
 use Rattle.spec_answers.specs.Answers.{Answer}
-use Rattle.report_records.specs.RecordsModel.{cut32}
-use Rattle.serduzhap.specs.Calls.{part_says}
-use Rattle.serduzhap.specs.declared.NamePart.{NamePart}
+use Rattle.read_bytes.specs.declared.name_part.NamePart.{NamePart}
+use Rattle.report_records.specs.declared.Record.{Record}
+use Rattle.report_records.specs.RecordsModel.{cut32, numbers32}
+use Rattle.serduzhap.specs.Calls.{check_says, report_number, report_detail, report_says, message_number, message_values, message_says, part_says}
+use Rattle.serduzhap.specs.declared.ReportError.{ReportError}
+use Rattle.serduzhap.specs.declared.MessageError.{MessageError}
+use Rattle.serduzhap.specs.declared.MessageError.TheVariants as M
 use Rattle.serduzhap_c.specs.Numbers.{numbers, answer_of, part_answer}
 
 -- an answer that has so many numbers, and 0 after them
@@ -39,6 +44,31 @@ pub uncut : (n : ℕ) (old : List ℕ) {a b : Answer} {new : List ℕ} → a ≡
     → new ≡ answer_of n b
 uncut n old {a} {b} s l e h =
     e ∙ ap (λ k. cut32 (numbers a ++ replicate (k - length (numbers a)) 0)) l ∙ ap (λ x. cut32 (answer_of n x)) s ∙ cut_all (and_zeros (n - length (numbers b)) h)
+
+-- a record is seven numbers of an answer
+pub uncut_record : (r : Record) (old : List ℕ) {b : Answer} {new : List ℕ} → check_says (Ok (Some r)) ≡ b → length old ≡ 7 → new ≡ take (length old) (numbers32 r) ++ drop 7 old
+    → All Small (numbers b) → new ≡ answer_of 7 b
+uncut_record r old {b} {new} s l e h =
+    let seven : take (length old) (numbers32 r) ++ drop 7 old ≡ numbers32 r = rw (drop_all 7 old (omega arith), l) in
+    let all : numbers32 r ≡ cut32 (numbers (check_says (Ok (Some r))) ++ replicate (length old - 7) 0) = rw l in
+    uncut 7 old s l (e ∙ (seven ∙ all)) h
+
+-- an error is two numbers of an answer: its own, and what goes with it, or 0
+module _ {b : Answer} {k n : ℕ} {new : List ℕ} where
+  pub uncut_report : (e : ReportError) (old : List ℕ) → report_says (Err e) ≡ b → length old ≡ 2 → k ≡ report_number e → n ≡ report_detail e
+      → new ≡ cut32 ((k ∷ n ∷ []) ++ replicate (length old - 2) 0) → All Small (numbers b) → new ≡ answer_of 2 b
+  uncut_report e old s l i j w h = uncut 2 old s l (w ∙ ap₂ (λ (k n : ℕ). cut32 ((k ∷ n ∷ []) ++ replicate (length old - 2) 0)) i j) h
+
+  pub uncut_message : (e : MessageError) (old : List ℕ) → message_says (Err e) ≡ b → length old ≡ 2 → k ≡ message_number e → n ≡ get_or (message_values e) 0 0
+      → new ≡ cut32 ((k ∷ n ∷ []) ++ replicate (length old - 2) 0) → All Small (numbers b) → new ≡ answer_of 2 b
+  uncut_message e old s l i j w h = uncut 2 old s l (w ∙ (ap₂ (λ (k n : ℕ). cut32 ((k ∷ n ∷ []) ++ replicate (length old - 2) 0)) i j ∙ two e)) h
+    where
+      -- 0 stands where nothing goes with it
+      two : (e : MessageError) → cut32 ((message_number e ∷ get_or (message_values e) 0 0 ∷ []) ++ replicate (length old - 2) 0)
+          ≡ cut32 (numbers (message_says (Err e)) ++ replicate (length old - length (numbers (message_says (Err e)))) 0)
+      two (M.Refused r) = refl
+      two M.NoFault = rw l
+      two M.TooLong = rw l
 
 pub uncut_part : (x : Part) (old : List ℕ) {r : NamePart} {new : List ℕ} → r ≡ part_says x → length old ≡ 3 → new ≡ cut32 ((102 ∷ r.offset ∷ r.len ∷ []) ++ replicate (length old - 3) 0)
     → All Small (part_answer x) → new ≡ part_answer x

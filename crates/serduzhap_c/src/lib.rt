@@ -1,5 +1,6 @@
 // The calls for C and Rust, on every target: an answer is a row of 32-bit numbers that the caller lends: a number,
 // then what goes with it, then 0. Nothing is returned. serduzhap_c_export exports them.
+// Kept: the five calls stand here and there, since C links by those names, and every target wants the calls.
 #![tactic(auto)]
 
 ghost use Rattle.std.specs.Prelude.{◌≡◌, ◌≤◌, ◌-◌, ◌++◌, length, replicate};
@@ -7,10 +8,10 @@ ghost use Rattle.spec_answers.specs.Answers.{check, over, report, message, name}
 ghost use Rattle.report_records.specs.RecordsModel.{cut32};
 ghost use Rattle.serduzhap_c.specs.Numbers.{answer_of, part_answer, version};
 
-use serduzhap::{MessageError, ReportError};
-use spec_text::refusal;
+use report_records::cut;
 
 // The first number of an answer that is neither a refusal nor a fault.
+// Kept: constants and no enum, since C is handed numbers.
 pub const ACCEPTED: usize = 100;
 
 pub const WRITTEN: usize = 101;
@@ -41,7 +42,7 @@ fn put(answer: &mut [u32], numbers: &[usize])
     ensures { answer.new ≡ cut32 (numbers.now ++ replicate (length answer.old - length numbers.now) 0) }
 {
     for (i, to) in answer.iter_mut().enumerate() {
-        *to = (numbers.get(i).copied().unwrap_or(0) % 4294967296) as u32;
+        *to = cut(numbers.get(i).copied().unwrap_or(0));
     }
 }
 
@@ -51,18 +52,7 @@ pub fn serduzhap_check(text: &[u8], work: &mut [u32], answer: &mut [u32; CHECK_A
 {
     match serduzhap::check(text, work) {
         Ok(None) => put(answer, &[ACCEPTED]),
-        Ok(Some(record)) => put(
-            answer,
-            &[
-                record.kind.number(),
-                record.start as usize,
-                record.end as usize,
-                record.name,
-                record.name_len,
-                record.class,
-                record.class_len,
-            ],
-        ),
+        Ok(Some(record)) => record.put(answer),
         Err(refused) => put(answer, &[refused.why.number(), refused.line]),
     }
 }
@@ -79,11 +69,7 @@ pub fn serduzhap_report(
 {
     match serduzhap::report(text, work, out) {
         Ok(count) => put(answer, &[WRITTEN, count]),
-        Err(ReportError::Refused(refused)) => put(answer, &[refused.why.number(), refused.line]),
-        Err(ReportError::OutputTooShort { count }) => put(
-            answer,
-            &[refusal::OUTPUT_TOO_SHORT, count],
-        ),
+        Err(error) => put(answer, &[error.number(), error.detail()]),
     }
 }
 
@@ -100,9 +86,7 @@ pub fn serduzhap_message(
 {
     match serduzhap::message(text, work, i, out) {
         Ok(len) => put(answer, &[WRITTEN, len]),
-        Err(MessageError::Refused(refused)) => put(answer, &[refused.why.number(), refused.line]),
-        Err(MessageError::NoFault) => put(answer, &[refusal::NO_SUCH_FAULT]),
-        Err(MessageError::TooLong) => put(answer, &[refusal::MESSAGE_TOO_LONG]),
+        Err(error) => put(answer, &[error.number(), error.detail()]),
     }
 }
 

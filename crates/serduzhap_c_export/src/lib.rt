@@ -1,4 +1,5 @@
 // The calls of serduzhap_c under the names that C links: a slice is a pointer and a count. include/serduzhap.h is the header.
+// Kept: the five calls stand here and there, since C links by these names, and every target wants the calls.
 #![tactic(auto)]
 
 ghost use Rattle.std.specs.Prelude.{◌≡◌, length};

@@ -1,6 +1,6 @@
 -- What `message` promises, its answer in numbers.
 use Rattle.std.proofs.Common.{length, arith}
-use Rattle.serduzhap_c.proofs.Stores.{uncut}
+use Rattle.serduzhap_c.proofs.Stores.{uncut, uncut_message}
 use Rattle.serduzhap_c.proofs.Sizes.{message_small}
 use Rattle.serduzhap_c.proofs.serduzhap_message.Goals as goal
 
@@ -9,8 +9,8 @@ returns-in-Ok-clause-answer_after c =
     let a = c.args in
     uncut 2 _ c.in-Ok.ensures.0 (omega arith) c.put.ensures (message_small a.text.now (length a.work.now) a.i (length a.out.now))
 
-pub returns-in-Err-Refused-clause-answer_after : goal.returns-in-Err-Refused-clause-answer_after
-returns-in-Err-Refused-clause-answer_after c =
+pub returns-in-Err-clause-answer_after : goal.returns-in-Err-clause-answer_after
+returns-in-Err-clause-answer_after c =
     let a = c.args in
-    uncut 2 _ (rw c.in-Err-Refused.field-0-is at c.in-Err-Refused.ensures.0) (omega arith)
-    (rw c.number.ensures at c.put-in-Err-Refused.ensures) (message_small a.text.now (length a.work.now) a.i (length a.out.now))
+    uncut_message c.in-Err.error _ c.in-Err.ensures.0 (omega arith) c.number.ensures c.detail.ensures c.put-in-Err.ensures
+    (message_small a.text.now (length a.work.now) a.i (length a.out.now))
