@@ -1,7 +1,7 @@
 -- What the theorems share: an answer says which case of the code's it is, and the answers of the definitions by cases of the text.
 use Rattle.std.proofs.Common.{ℕ, zero, suc, ◌*◌, ◌<◌, ◌≤◌, arith, ◌≡◌, refl, sym, ap, ◌∙◌, subst, Bool, true, false, List, [], ◌∷◌, leb, ltb, length, get_or, take, drop, ltb-true, ltb-false, leb-true, None, Some, Result, Ok, Err}
-use mathlib.Core.Option.{Option, none, some}
-use lib.Seq.{take-append_seam}
+use Rattle.std.proofs.Math.Option.{Option, none, some}
+use Rattle.std.proofs.Math.Seq.{take-append_seam}
 use Rattle.spec_text.specs.Bytes.{Bytes, between}
 use Rattle.spec_text.specs.Tree.{Tree}
 use Rattle.spec_text.specs.Reading.{Reading, tree, refusal, reading}
@@ -32,7 +32,7 @@ use Rattle.serduzhap_c.specs.Numbers.{numbers}
 abbrev record_of : Answer → Record
 record_of a =
     let ns = numbers a in
-    record { kind = kind_by_number (get_or ns 0 0); start = get_or ns 1 0; end = get_or ns 2 0; name = get_or ns 3 0; name_len = get_or ns 4 0; class = get_or ns 5 0; class_len = get_or ns 6 0 }
+    record { kind = kind_by_number (get_or ns 0 0); start = get_or ns 1 0; end = get_or ns 2 0; name = record { offset = get_or ns 3 0; len = get_or ns 4 0 }; class = record { offset = get_or ns 5 0; len = get_or ns 6 0 } }
 
 -- so many records or bytes were written
 abbrev pub count : Answer → ℕ
@@ -125,7 +125,7 @@ pub data Message (i out : ℕ) : Reading → Outcome → Type 0 where
   message_written : {t : Tree} {f : Fault} → nth_fault (faults t) i ≡ some f → length (message_of f) ≤ out
       → Message i out (tree t) (whole (length (message_of f)) (message_of f))
 
-pub nth_none : (fs : List Fault) (i : ℕ) → nth_fault fs i ≡ none → length fs ≤ i
+nth_none : (fs : List Fault) (i : ℕ) → nth_fault fs i ≡ none → length fs ≤ i
 nth_none [] i e = omega arith
 nth_none (f ∷ fs) zero e = let z : ◌≡◌ {A = ℕ} 0 1 = cc in absurd (omega arith)
 nth_none (f ∷ fs) (suc i) e = omega (arith, nth_none fs i e)

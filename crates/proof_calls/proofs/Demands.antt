@@ -1,6 +1,6 @@
 -- The demands, as theorems about the public calls: demand 1 for each call, demands 2 and 3.
 use Rattle.std.proofs.Common.{ℕ, ◌*◌, ◌≤◌, arith, ◌≡◌, refl, sym, ap, ap₂, ◌∙◌, subst, ◌⊎◌, inl, inr, List, [], ◌∷◌, length, take, drop, lt-ltb, le-ltb, None, Result, Ok, Err}
-use lib.Seq.{take-append_seam, drop-append_seam}
+use Rattle.std.proofs.Math.Seq.{take-append_seam, drop-append_seam}
 use Rattle.spec_text.specs.Bytes.{Bytes}
 use Rattle.spec_text.specs.Tree.{Tree}
 use Rattle.spec_text.specs.Reading.{Reading, tree, refusal, reading}
@@ -19,7 +19,7 @@ use Rattle.serduzhap.specs.declared.ReportError.{ReportError}
 use Rattle.serduzhap.specs.declared.MessageError.{MessageError}
 use Rattle.serduzhap.specs.declared.MessageError.TheVariants as M
 use Rattle.report_records.specs.declared.Record.{Record}
-use Rattle.serduzhap.specs.declared.NamePart.{NamePart}
+use Rattle.read_bytes.specs.declared.name_part.NamePart.{NamePart}
 use Rattle.proof_calls.specs.Demands.{Refusals, TooMany, AllFit, NoFault, TooLong, Fits, CheckRefuses, ReportRefuses, MessageRefuses, NameIsEmpty, SameReport, SameMessage, Demand2, Demand3}
 use Rattle.proof_calls.proofs.Agreed.{count, check_says_lem, report_says_lem, message_says_lem, whole, Report, report_refused, too_short, report_written, report_by, Message, message_refused, no_fault, too_long, message_written, message_by, none_nth, all_nth, report_counts, message_counts, alike, refusal_range}
 use Rattle.proof_calls.proofs.Passed.{passed, first_none}

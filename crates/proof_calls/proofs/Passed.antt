@@ -29,11 +29,11 @@ first_kind [] h e = let z : ◌≡◌ {A = ℕ} 0 1 = cc in absurd (omega arith)
 first_kind (f ∷ fs) (also h r) {k} e = let z : k ≡ f.kind = cc in (omega (arith, h.least), omega (arith, h.most))
 
 -- ---- by cases of the text: an answer is a tree's or a refusal's
-pub accepted_of : (x : Reading) → accepted ≡ check_of x → (t : Tree) × (x ≡ tree t) × (faults t ≡ [])
+accepted_of : (x : Reading) → accepted ≡ check_of x → (t : Tree) × (x ≡ tree t) × (faults t ≡ [])
 accepted_of (tree t) e = (t, refl, first_none (faults t) e)
 accepted_of (refusal k n) e = let z : ◌≡◌ {A = ℕ} 0 1 = cc in absurd (omega arith)
 
-pub refused_of : (x : Reading) {k n : ℕ} → refused_at k n ≡ check_of x → x ≡ refusal k n
+refused_of : (x : Reading) {k n : ℕ} → refused_at k n ≡ check_of x → x ≡ refusal k n
 refused_of (tree t) e = absurd (first_refused (faults t) e)
 refused_of (refusal j m) {k} {n} e =
     let a : j ≡ k = cc in

@@ -16,7 +16,7 @@ use Rattle.report_records.specs.declared.Record.{Record}
 use Rattle.serduzhap.specs.declared.ReportError.{ReportError}
 use Rattle.serduzhap.specs.declared.MessageError.{MessageError}
 use Rattle.serduzhap.specs.declared.MessageError.TheVariants as M
-use Rattle.serduzhap.specs.declared.NamePart.{NamePart}
+use Rattle.read_bytes.specs.declared.name_part.NamePart.{NamePart}
 
 -- ==== Demand 1
 -- "Every public call takes text and buffers of any content and length, ends, and either answers or gives a refusal, which then leaves the
