@@ -69,7 +69,7 @@ pub fn serduzhap_report(
 {
     match serduzhap::report(text, work, out) {
         Ok(count) => put(answer, &[WRITTEN, count]),
-        Err(error) => put(answer, &[error.number(), error.detail()]),
+        Err(no_report) => put(answer, &[no_report.number(), no_report.detail()]),
     }
 }
 
@@ -86,7 +86,7 @@ pub fn serduzhap_message(
 {
     match serduzhap::message(text, work, i, out) {
         Ok(len) => put(answer, &[WRITTEN, len]),
-        Err(error) => put(answer, &[error.number(), error.detail()]),
+        Err(no_message) => put(answer, &[no_message.number(), no_message.detail()]),
     }
 }
 

@@ -12,5 +12,5 @@ returns-in-Ok-clause-answer_after c =
 pub returns-in-Err-clause-answer_after : goal.returns-in-Err-clause-answer_after
 returns-in-Err-clause-answer_after c =
     let a = c.args in
-    uncut_report c.in-Err.error _ c.in-Err.ensures.0 (omega arith) c.number.ensures c.detail.ensures c.put-in-Err.ensures
+    uncut_report c.in-Err.no_report _ c.in-Err.ensures.0 (omega arith) c.number.ensures c.detail.ensures c.put-in-Err.ensures
     (report_small a.text.now (length a.work.now) (length a.out.now))
