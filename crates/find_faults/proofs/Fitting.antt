@@ -78,7 +78,7 @@ all_by_place n zero a = none
 all_by_place n (suc m) a = all_append (all_keep _ a) (all_by_place (suc n) m a)
 
 pub fault_of_lem : {P : Fault → Type 0} {fs : List Fault} → All P fs → (j : ℕ) (f : Fault) → nth_fault fs j ≡ some f → P f
-fault_of_lem none j f e = let z : ◌≡◌ {A = ℕ} 0 1 = cc in absurd (omega arith)
+fault_of_lem none j f e = absurd cc
 fault_of_lem {P} (also {a = g} h r) zero f e = let q : g ≡ f = cc in subst P q h
 fault_of_lem (also h r) (suc j) f e = fault_of_lem r j f e
 

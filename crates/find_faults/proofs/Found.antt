@@ -108,7 +108,7 @@ tree_read text (tree t) {r = r} a =
     let counts : Counts = record { globals = length t.globals; lines = length (rows_t t) } in
     let q : r ≡ counts = cc a.answer in
     record { tree' = t; is = refl; globals = ap (λ (c : Counts). c.globals) q; lines = ap (λ (c : Counts). c.lines) q; holds = a.kept }
-tree_read text (refusal k m) a = let z : ◌≡◌ {A = ℕ} 0 1 = cc a.answer in absurd (omega arith)
+tree_read text (refusal k m) a = absurd (cc a.answer)
 
 module _ (text : Bytes) (work : ℕ) {w : List ℕ} {r : Counts} (a : Answers text (reading text work) w (Ok r)) where
   pub finds_faults : Words w → {v z : List ℕ} {m : ℕ} → v ≡ walked text r.globals r.lines w → z ≡ stored (entries v r.globals r.lines) 0 v

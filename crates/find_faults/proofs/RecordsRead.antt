@@ -32,7 +32,7 @@ module _ {A B : Type 0} {R : A → B → Type 0} where
   pairs_length (Pairs.pair h p) = ap suc (pairs_length p)
 
 pub pair_at : {R : ℕ → Fault → Type 0} {es : List ℕ} {fs : List Fault} → Pairs R es fs → (j : ℕ) (f : Fault) → nth_fault fs j ≡ some f → (j < length es) × R (get_or es j 0) f
-pair_at Pairs.none j f e = let z : ◌≡◌ {A = ℕ} 0 1 = cc in absurd (omega arith)
+pair_at Pairs.none j f e = absurd cc
 pair_at {R} (Pairs.pair {a = n} {b = g} h p) zero f e = let q : g ≡ f = cc in (omega arith, subst (R n) q h)
 pair_at (Pairs.pair h p) (suc j) f e = let k = pair_at p j f e in (omega (arith, k.0), k.1)
 

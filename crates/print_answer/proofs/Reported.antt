@@ -66,7 +66,7 @@ module _ (text : Bytes) (work old : List ℕ) (long : length work ≡ shortest_w
   pub print_written : (k : ℕ) → Says (written k) → record_lines text k ns ++ line_with "faults" (decimal_of k ∷ []) ≡ printed text
   print_written k e =
       by_answer text (λ a b. Gives a old ns (written k) → record_lines text k ns ++ line_with "faults" (decimal_of k ∷ []) ≡ b)
-      (λ i n d. let z : ◌≡◌ {A = ℕ} 0 1 = cc in absurd (omega arith))
+      (λ i n d. absurd cc)
       (λ t g few d.
       let i : k ≡ length (faults t) = cc in
       rw (i, d.1) (both (lines_reported text (faults t) old (λ j f at. (fault_of_lem (kinds t) j f at, faults_shown text shortest_work t g j f at))) refl)) (here e)
@@ -78,7 +78,7 @@ module _ (text : Bytes) (work old : List ℕ) (long : length work ≡ shortest_w
       let p : k ≡ i = cc in
       let q : n ≡ m = cc in
       rw (p, q))
-      (λ t g few d. let z : ◌≡◌ {A = ℕ} 0 1 = cc in absurd (omega arith)) (here e)
+      (λ t g few d. absurd cc) (here e)
 
 -- ---- what is pushed to the start of a buffer
 pub prints : (text : Bytes) (old : List ℕ) {new : List ℕ} {n : ℕ} → Pushes old 0 (printed text) new n → Prints text old new n

@@ -48,12 +48,12 @@ check_says_lem (Err r) (Err q) e =
     let a : refusal_number r.why ≡ refusal_number q.why = cc in
     let b : r.line ≡ q.line = cc in
     ap Err (one_refused a b)
-check_says_lem (Ok None) (Ok (Some q)) e = let z : ◌≡◌ {A = ℕ} 0 1 = cc in absurd (omega arith)
-check_says_lem (Ok None) (Err q) e = let z : ◌≡◌ {A = ℕ} 0 1 = cc in absurd (omega arith)
-check_says_lem (Ok (Some r)) (Ok None) e = let z : ◌≡◌ {A = ℕ} 0 1 = cc in absurd (omega arith)
-check_says_lem (Ok (Some r)) (Err q) e = let z : ◌≡◌ {A = ℕ} 0 1 = cc in absurd (omega arith)
-check_says_lem (Err r) (Ok None) e = let z : ◌≡◌ {A = ℕ} 0 1 = cc in absurd (omega arith)
-check_says_lem (Err r) (Ok (Some q)) e = let z : ◌≡◌ {A = ℕ} 0 1 = cc in absurd (omega arith)
+check_says_lem (Ok None) (Ok (Some q)) e = absurd cc
+check_says_lem (Ok None) (Err q) e = absurd cc
+check_says_lem (Ok (Some r)) (Ok None) e = absurd cc
+check_says_lem (Ok (Some r)) (Err q) e = absurd cc
+check_says_lem (Err r) (Ok None) e = absurd cc
+check_says_lem (Err r) (Ok (Some q)) e = absurd cc
 
 -- a text's refusal has another number than 16
 why_small : (w : Refusal) → refusal_number w ≤ 7
@@ -74,10 +74,10 @@ report_says_lem (Err (R.Refused c)) (Err (R.Refused d)) e =
 report_says_lem (Err (R.OutputTooShort m)) (Err (R.OutputTooShort n)) e = let a : m ≡ n = cc in rw a
 report_says_lem (Err (R.Refused c)) (Err (R.OutputTooShort n)) e = let a : refusal_number c.why ≡ 16 = cc in absurd (omega (arith, a, why_small c.why))
 report_says_lem (Err (R.OutputTooShort n)) (Err (R.Refused c)) e = let a : 16 ≡ refusal_number c.why = cc in absurd (omega (arith, a, why_small c.why))
-report_says_lem (Ok j) (Err (R.Refused c)) e = let z : ◌≡◌ {A = ℕ} 0 1 = cc in absurd (omega arith)
-report_says_lem (Ok j) (Err (R.OutputTooShort n)) e = let z : ◌≡◌ {A = ℕ} 0 1 = cc in absurd (omega arith)
-report_says_lem (Err (R.Refused c)) (Ok k) e = let z : ◌≡◌ {A = ℕ} 0 1 = cc in absurd (omega arith)
-report_says_lem (Err (R.OutputTooShort n)) (Ok k) e = let z : ◌≡◌ {A = ℕ} 0 1 = cc in absurd (omega arith)
+report_says_lem (Ok j) (Err (R.Refused c)) e = absurd cc
+report_says_lem (Ok j) (Err (R.OutputTooShort n)) e = absurd cc
+report_says_lem (Err (R.Refused c)) (Ok k) e = absurd cc
+report_says_lem (Err (R.OutputTooShort n)) (Ok k) e = absurd cc
 
 pub message_says_lem : (r q : Result ℕ MessageError) → message_says r ≡ message_says q → r ≡ q
 message_says_lem (Ok j) (Ok k) e = let a : j ≡ k = cc in rw a
@@ -87,17 +87,17 @@ message_says_lem (Err (M.Refused c)) (Err (M.Refused d)) e =
     ap (λ (x : Refused). Err (M.Refused x)) (one_refused a b)
 message_says_lem (Err M.NoFault) (Err M.NoFault) e = refl
 message_says_lem (Err M.TooLong) (Err M.TooLong) e = refl
-message_says_lem (Ok j) (Err (M.Refused d)) e = let z : ◌≡◌ {A = ℕ} 0 1 = cc in absurd (omega arith)
-message_says_lem (Ok j) (Err M.NoFault) e = let z : ◌≡◌ {A = ℕ} 0 1 = cc in absurd (omega arith)
-message_says_lem (Ok j) (Err M.TooLong) e = let z : ◌≡◌ {A = ℕ} 0 1 = cc in absurd (omega arith)
-message_says_lem (Err (M.Refused c)) (Ok k) e = let z : ◌≡◌ {A = ℕ} 0 1 = cc in absurd (omega arith)
-message_says_lem (Err (M.Refused c)) (Err M.NoFault) e = let z : ◌≡◌ {A = ℕ} 0 1 = cc in absurd (omega arith)
-message_says_lem (Err (M.Refused c)) (Err M.TooLong) e = let z : ◌≡◌ {A = ℕ} 0 1 = cc in absurd (omega arith)
-message_says_lem (Err M.NoFault) (Ok k) e = let z : ◌≡◌ {A = ℕ} 0 1 = cc in absurd (omega arith)
-message_says_lem (Err M.NoFault) (Err (M.Refused d)) e = let z : ◌≡◌ {A = ℕ} 0 1 = cc in absurd (omega arith)
+message_says_lem (Ok j) (Err (M.Refused d)) e = absurd cc
+message_says_lem (Ok j) (Err M.NoFault) e = absurd cc
+message_says_lem (Ok j) (Err M.TooLong) e = absurd cc
+message_says_lem (Err (M.Refused c)) (Ok k) e = absurd cc
+message_says_lem (Err (M.Refused c)) (Err M.NoFault) e = absurd cc
+message_says_lem (Err (M.Refused c)) (Err M.TooLong) e = absurd cc
+message_says_lem (Err M.NoFault) (Ok k) e = absurd cc
+message_says_lem (Err M.NoFault) (Err (M.Refused d)) e = absurd cc
 message_says_lem (Err M.NoFault) (Err M.TooLong) e = let z : ◌≡◌ {A = ℕ} 17 18 = cc in absurd (omega arith)
-message_says_lem (Err M.TooLong) (Ok k) e = let z : ◌≡◌ {A = ℕ} 0 1 = cc in absurd (omega arith)
-message_says_lem (Err M.TooLong) (Err (M.Refused d)) e = let z : ◌≡◌ {A = ℕ} 0 1 = cc in absurd (omega arith)
+message_says_lem (Err M.TooLong) (Ok k) e = absurd cc
+message_says_lem (Err M.TooLong) (Err (M.Refused d)) e = absurd cc
 message_says_lem (Err M.TooLong) (Err M.NoFault) e = let z : ◌≡◌ {A = ℕ} 18 17 = cc in absurd (omega arith)
 
 -- ---- what a report is, by cases of the text and of the output's length
@@ -127,7 +127,7 @@ pub data Message (i out : ℕ) : Reading → Outcome → Type 0 where
 
 nth_none : (fs : List Fault) (i : ℕ) → nth_fault fs i ≡ none → length fs ≤ i
 nth_none [] i e = omega arith
-nth_none (f ∷ fs) zero e = let z : ◌≡◌ {A = ℕ} 0 1 = cc in absurd (omega arith)
+nth_none (f ∷ fs) zero e = absurd cc
 nth_none (f ∷ fs) (suc i) e = omega (arith, nth_none fs i e)
 
 pub none_nth : (fs : List Fault) (i : ℕ) → length fs ≤ i → nth_fault fs i ≡ none
@@ -148,7 +148,7 @@ message_by i out (tree t) = go (nth_fault (faults t) i) refl
     go (some f) e = rw e (fits f e (ltb out (length (message_of f))) refl)
 
 pub all_nth : {P : Fault → Type 0} {fs : List Fault} → All P fs → (i : ℕ) {f : Fault} → nth_fault fs i ≡ some f → P f
-all_nth All-none i e = let z : ◌≡◌ {A = ℕ} 0 1 = cc in absurd (omega arith)
+all_nth All-none i e = absurd cc
 all_nth {P} (also {a} h r) zero {f} e = let z : a ≡ f = cc in subst P z h
 all_nth (also h r) (suc i) e = all_nth r i e
 
@@ -174,7 +174,7 @@ alike o old old' {n = n} e a b = ap (take n) a ∙ begins o.writes old e ∙ sym
 
 -- ---- a reading is one tree or one refusal
 pub one_reading : {x : Reading} {k n : ℕ} {t : Tree} → x ≡ refusal k n → x ≡ tree t → ⊥
-one_reading e f = let z : ◌≡◌ {A = ℕ} 0 1 = cc in omega arith
+one_reading e f = cc
 
 -- "A refusal has a number from 1 to 7"
 pub refusal_range : (text : Bytes) (work : ℕ) {k n : ℕ} → reading text work ≡ refusal k n → (1 ≤ k) × (k ≤ 7)

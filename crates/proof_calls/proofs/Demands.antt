@@ -39,7 +39,7 @@ module _ (out : ℕ) where
   short_from : {x : Reading} {o : Outcome} → Report out x o → {k n : ℕ} → refused_at k n ≡ o.answer → Short x k n
   short_from report_refused e = inl cc
   short_from (too_short {t} h) e = inr (cc, (t, refl, h, cc))
-  short_from (report_written h) e = let z : ◌≡◌ {A = ℕ} 0 1 = cc in absurd (omega arith)
+  short_from (report_written h) e = absurd cc
 
   from_short : (x : Reading) {k n : ℕ} → Short x k n → (report_of out x).answer ≡ refused_at k n
   from_short x (inl e) = ap (λ y. (report_of out y).answer) e
@@ -49,8 +49,8 @@ module _ (out : ℕ) where
       ap (λ y. (report_of out y).answer) p.1.1 ∙ r ∙ ap₂ refused_at (sym p.0) (sym p.1.3)
 
   holds_from : {x : Reading} {o : Outcome} → Report out x o → {n : ℕ} → written n ≡ o.answer → AllFit x out n
-  holds_from report_refused e = let z : ◌≡◌ {A = ℕ} 0 1 = cc in absurd (omega arith)
-  holds_from (too_short h) e = let z : ◌≡◌ {A = ℕ} 0 1 = cc in absurd (omega arith)
+  holds_from report_refused e = absurd cc
+  holds_from (too_short h) e = absurd cc
   holds_from (report_written {t} h) e = (t, refl, h, cc)
 
   from_holds : (x : Reading) {n : ℕ} → AllFit x out n → (report_of out x).answer ≡ written n
@@ -63,7 +63,7 @@ module _ (out : ℕ) where
   report_quiet : {x : Reading} {o : Outcome} → Report out x o → {k n : ℕ} → refused_at k n ≡ o.answer → o.writes ≡ []
   report_quiet report_refused e = refl
   report_quiet (too_short h) e = refl
-  report_quiet (report_written h) e = let z : ◌≡◌ {A = ℕ} 0 1 = cc in absurd (omega arith)
+  report_quiet (report_written h) e = absurd cc
 
 pub report_refuses : (text : Bytes) (work : ℕ) (old new : List ℕ) (r : Result ℕ ReportError) → Reports text work old new r → ReportRefuses text work old new r
 report_refuses text work old new r h =
@@ -81,26 +81,26 @@ report_refuses text work old new r h =
 module _ (i out : ℕ) where
   refused_from : {x : Reading} {o : Outcome} → Message i out x o → {k n : ℕ} → refused_at k n ≡ o.answer → x ≡ refusal k n
   refused_from message_refused e = cc
-  refused_from (no_fault h) e = let z : ◌≡◌ {A = ℕ} 0 1 = cc in absurd (omega arith)
-  refused_from (too_long d h) e = let z : ◌≡◌ {A = ℕ} 0 1 = cc in absurd (omega arith)
-  refused_from (message_written d h) e = let z : ◌≡◌ {A = ℕ} 0 1 = cc in absurd (omega arith)
+  refused_from (no_fault h) e = absurd cc
+  refused_from (too_long d h) e = absurd cc
+  refused_from (message_written d h) e = absurd cc
 
   without_from : {x : Reading} {o : Outcome} → Message i out x o → refused 17 [] ≡ o.answer → NoFault x i
-  without_from message_refused e = let z : ◌≡◌ {A = ℕ} 0 1 = cc in absurd (omega arith)
+  without_from message_refused e = absurd cc
   without_from (no_fault {t} h) e = (t, refl, h)
   without_from (too_long d h) e = let z : ◌≡◌ {A = ℕ} 17 18 = cc in absurd (omega arith)
-  without_from (message_written d h) e = let z : ◌≡◌ {A = ℕ} 0 1 = cc in absurd (omega arith)
+  without_from (message_written d h) e = absurd cc
 
   longer_from : {x : Reading} {o : Outcome} → Message i out x o → refused 18 [] ≡ o.answer → TooLong x i out
-  longer_from message_refused e = let z : ◌≡◌ {A = ℕ} 0 1 = cc in absurd (omega arith)
+  longer_from message_refused e = absurd cc
   longer_from (no_fault h) e = let z : ◌≡◌ {A = ℕ} 18 17 = cc in absurd (omega arith)
   longer_from (too_long {t} {f} d h) e = (t, f, refl, d, h)
-  longer_from (message_written d h) e = let z : ◌≡◌ {A = ℕ} 0 1 = cc in absurd (omega arith)
+  longer_from (message_written d h) e = absurd cc
 
   fits_from : {x : Reading} {o : Outcome} → Message i out x o → {n : ℕ} → written n ≡ o.answer → Fits x i out n
-  fits_from message_refused e = let z : ◌≡◌ {A = ℕ} 0 1 = cc in absurd (omega arith)
-  fits_from (no_fault h) e = let z : ◌≡◌ {A = ℕ} 0 1 = cc in absurd (omega arith)
-  fits_from (too_long d h) e = let z : ◌≡◌ {A = ℕ} 0 1 = cc in absurd (omega arith)
+  fits_from message_refused e = absurd cc
+  fits_from (no_fault h) e = absurd cc
+  fits_from (too_long d h) e = absurd cc
   fits_from (message_written {t} {f} d h) e = (t, f, refl, d, h, cc)
 
   -- a refusal writes nothing

@@ -1,5 +1,5 @@
 -- Two scripts: one that passes, and one that does not. So the rule is neither empty nor full.
-use Rattle.std.proofs.Common.{ℕ, arith, ◌≡◌, refl}
+use Rattle.std.proofs.Common.{refl}
 use Rattle.spec_text.specs.Bytes.{Bytes, bytes}
 use Rattle.proof_calls.specs.Passed.{Passes}
 use Rattle.proof_calls.proofs.Passed.{passes_if}
@@ -18,5 +18,4 @@ b = bytes "tree\t0\t1\nassign\t0\t5\nvar\t4\t5\tx\nvar\t0\t1\tx\n"
 b_fails : Passes b 16_384 → ⊥
 b_fails p =
     let e = (passes_if b 16_384).1 p in
-    let z : ◌≡◌ {A = ℕ} 0 1 = cc in
-    omega arith
+    cc

@@ -18,20 +18,20 @@ use Rattle.proof_calls.proofs.Agreed.{check_says_lem, refusal_range, one_reading
 -- ---- the first record, and the faults that it is of
 pub first_none : (fs : List Fault) → accepted ≡ first_record fs → fs ≡ []
 first_none [] e = refl
-first_none (f ∷ fs) e = let z : ◌≡◌ {A = ℕ} 0 1 = cc in absurd (omega arith)
+first_none (f ∷ fs) e = absurd cc
 
 pub first_refused : (fs : List Fault) {k n : ℕ} → refused_at k n ≡ first_record fs → ⊥
-first_refused [] e = let z : ◌≡◌ {A = ℕ} 0 1 = cc in omega arith
-first_refused (f ∷ fs) e = let z : ◌≡◌ {A = ℕ} 0 1 = cc in omega arith
+first_refused [] e = cc
+first_refused (f ∷ fs) e = cc
 
 first_kind : (fs : List Fault) → All FromEight fs → {k : ℕ} {ns : List ℕ} → faulty (k ∷ ns) ≡ first_record fs → (8 ≤ k) × (k ≤ 15)
-first_kind [] h e = let z : ◌≡◌ {A = ℕ} 0 1 = cc in absurd (omega arith)
+first_kind [] h e = absurd cc
 first_kind (f ∷ fs) (also h r) {k} e = let z : k ≡ f.kind = cc in (omega (arith, h.least), omega (arith, h.most))
 
 -- ---- by cases of the text: an answer is a tree's or a refusal's
 accepted_of : (x : Reading) → accepted ≡ check_of x → (t : Tree) × (x ≡ tree t) × (faults t ≡ [])
 accepted_of (tree t) e = (t, refl, first_none (faults t) e)
-accepted_of (refusal k n) e = let z : ◌≡◌ {A = ℕ} 0 1 = cc in absurd (omega arith)
+accepted_of (refusal k n) e = absurd cc
 
 refused_of : (x : Reading) {k n : ℕ} → refused_at k n ≡ check_of x → x ≡ refusal k n
 refused_of (tree t) e = absurd (first_refused (faults t) e)
@@ -42,7 +42,7 @@ refused_of (refusal j m) {k} {n} e =
 
 kind_of : (x : Reading) {k : ℕ} {ns : List ℕ} → faulty (k ∷ ns) ≡ check_of x → (8 ≤ k) × (k ≤ 15)
 kind_of (tree t) e = first_kind (faults t) (kinds t) e
-kind_of (refusal j m) e = let z : ◌≡◌ {A = ℕ} 0 1 = cc in absurd (omega arith)
+kind_of (refusal j m) e = absurd cc
 
 -- ---- the text is a tree of which the rule holds exactly when the answer is `accepted`
 pub passes_if : (text : Bytes) (work : ℕ) → (accepted ≡ check_of (reading text work)) ↔ Passes text work

@@ -31,7 +31,7 @@ pub data Slotted (w : List ℕ) : ℕ → ℕ → List Fault → Type 0 where
 
 pub slotted : {rows : List Row} (w : List ℕ) (m i : ℕ) (fs : List Fault) → i + m ≤ 4_096 → All (Right rows) fs → slots_from w i m ≡ keys fs → Slotted w i m fs
 slotted w zero i [] l r e = end
-slotted w zero i (f ∷ fs) l r e = let z : ◌≡◌ {A = ℕ} 0 1 = cc in absurd (omega arith)
+slotted w zero i (f ∷ fs) l r e = absurd cc
 slotted {rows} w (suc m) i fs l r e = go (slot_at w i) refl fs r e (λ gs. slotted w m (suc i) gs (omega arith))
   where
     here : slot_in w i ≡ number_of (fault_of (slot_at w i))
@@ -40,7 +40,7 @@ slotted {rows} w (suc m) i fs l r e = go (slot_at w i) refl fs r e (λ gs. slott
     go : (k : ℕ) → slot_at w i ≡ k → (fs : List Fault) → All (Right rows) fs → key_of (suc (suc i)) k ++ slots_from w (suc i) m ≡ keys fs
         → ((gs : List Fault) → All (Right rows) gs → slots_from w (suc i) m ≡ keys gs → Slotted w (suc i) m gs) → Slotted w i (suc m) fs
     go zero q fs r e more = free (here ∙ ap (λ k. number_of (fault_of k)) q) (more fs r e)
-    go (suc k) q [] r e more = let z : ◌≡◌ {A = ℕ} 0 1 = cc in absurd (omega arith)
+    go (suc k) q [] r e more = absurd cc
     go (suc k) q (f ∷ fs) (also r rs) e more =
         let a : ◌≡◌ {A = Key} (record { line = suc (suc i); kind = suc k }) (record { line = f.line; kind = f.kind }) = cc in
         let b : slots_from w (suc i) m ≡ keys fs = cc in

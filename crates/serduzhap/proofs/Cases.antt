@@ -63,7 +63,7 @@ module _ {text : Bytes} {x : Reading} {w : List ℕ} {n : ℕ} (f : Finds text x
     where
       by : (y : Reading) → Finds text y w (Ok n) → P n y
       by (tree t) g = let z : length (faults t) ≡ n = cc g.answer in subst (λ (k : ℕ). P k (tree t)) z (go t g.kept)
-      by (refusal k l) g = let z : ◌≡◌ {A = ℕ} 0 1 = cc g.answer in absurd (omega arith)
+      by (refusal k l) g = absurd (cc g.answer)
 
   pub few : (length text < 65_537) × (n < 4_097)
   few = of_tree (λ n y. (length text < 65_537) × (n < 4_097)) (λ t k. k.1)
@@ -101,7 +101,7 @@ module _ {text : Bytes} {x : Reading} {w : List ℕ} {n : ℕ} (f : Finds text x
 -- ---- of any answer: a text that is refused has no name
 module _ {text : Bytes} {w : List ℕ} (i : ℕ) where
   refused_name : (x : Reading) (e : Refused) → Finds text x w (Err e) → Names text absent (name_in i x)
-  refused_name (tree t) e f = let z : ◌≡◌ {A = ℕ} 0 1 = cc f.answer in absurd (omega arith)
+  refused_name (tree t) e f = absurd (cc f.answer)
   refused_name (refusal k l) e f = (refl, no_part text)
 
   pub name_if_none : (x : Reading) (r : Result ℕ Refused) → Finds text x w r → result_unwrap_or r 0 ≤ i → Names text absent (name_in i x)
