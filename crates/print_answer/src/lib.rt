@@ -31,6 +31,7 @@ fn push_printed(
 
 // Writes what `namecheck` prints for a text, as much as there is room for, and answers how many bytes.
 // Kept: a length and not the part that is written, as `Read` and `Write` answer one.
+#[tactic(auto, using(crate::proofs::Reported::prints))]
 pub fn print(
     text: &[u8],
     work: &mut [u32; WORK],
