@@ -53,7 +53,7 @@ def called(one: Instruction) -> str:
     """The function that a call names, by its relocation or as the start of an address."""
     if one.names:
         return one.names[0]
-    match = re.search(r'<([^+>]*)>$', one.operands)
+    match = re.search(r'<([^+]*)>$', one.operands)
     if not match:
         raise Unknown('calls no function')
     return match[1]
@@ -63,7 +63,7 @@ def jump(one: Instruction, always: bool) -> Step:
     """A jump: to another function if a relocation names one."""
     if one.names:
         return Step(calls=one.names[0], leaves=True, goes_on=not always)
-    match = re.search(r'(?:^|[ ,])(0x[0-9a-f]+) <[^<>]*>$', one.operands)
+    match = re.search(r'(?:^|[ ,])(0x[0-9a-f]+) <.*>$', one.operands)
     if not match:
         raise Unknown('jumps nowhere')
     return Step(jumps=int(match[1], 16), goes_on=not always)
