@@ -1,8 +1,9 @@
--- The lines of a report's records are the lines of its faults: seven numbers are those of a fault, and the parts of the text that they show
--- are the fault's names. So what `print` pushes is what is printed.
-use Rattle.std.proofs.Common.{ℕ, suc, arith, zero-add, ◌≡◌, true, List, [], ◌∷◌, ◌++◌, leb, length, drop, le-leb, refl, ◌∙◌}
+-- The lines of a report's records are the lines of its faults: the numbers at seven times j are those of the j-th fault, and the parts of the
+-- text that they show are the fault's names. So what `print` pushes is what is printed.
+use Rattle.std.proofs.Common.{ℕ, suc, ◌+◌, ◌*◌, arith, zero-add, ◌≡◌, refl, sym, ap, ◌∙◌, List, [], ◌∷◌, ◌++◌, append_assoc, length, drop, length-append, get_or-append-add}
 use Rattle.std.proofs.Math.Nat.{sub-zero}
 use Rattle.std.proofs.Math.Option.{some}
+use Rattle.std.proofs.Math.Seq.{get_or-append_seam}
 use Rattle.spec_text.specs.Bytes.{Bytes}
 use Rattle.spec_text.specs.Reading.{shortest_work}
 use Rattle.spec_faults.specs.KindsModel.{kind_by_number}
@@ -14,7 +15,7 @@ use Rattle.spec_answers.specs.Printed.{fault_line, fault_lines, refused_line, re
 use Rattle.spec_text.specs.Writing.{decimal_of, line_with}
 use Rattle.write_bytes.specs.PushModel.{bytes_pushed, pushed_to, Pushes}
 use Rattle.report_records.specs.declared.Record.{Record}
-use Rattle.print_lines.specs.LinesModel.{record_line, record_lines}
+use Rattle.print_lines.specs.LinesModel.{record_in, record_line, record_lines}
 use Rattle.find_faults.specs.Found.{Shown}
 use Rattle.find_faults.proofs.Theorems.{faults_shown}
 use Rattle.find_faults.proofs.Fitting.{fault_of_lem}
@@ -35,6 +36,19 @@ record_of f =
       class = part_says f.in_class;
     }
 
+record_here : (before : List ℕ) (f : Fault) (after : List ℕ) → record_in (before ++ (record7 f ++ after)) (length before) ≡ record_of f
+record_here p f q =
+    let ns : List ℕ = record7 f ++ q in
+    rw (
+      get_or-append_seam p f.kind (f.start ∷ f.end ∷ f.name.offset ∷ length f.name.bytes ∷ f.in_class.offset ∷ length f.in_class.bytes ∷ q) 0,
+      get_or-append-add p ns 1 0,
+      get_or-append-add p ns 2 0,
+      get_or-append-add p ns 3 0,
+      get_or-append-add p ns 4 0,
+      get_or-append-add p ns 5 0,
+      get_or-append-add p ns 6 0,
+    )
+
 module _ (text : Bytes) where
   -- of a fault: its kind is one, and the names that it shows are parts of the text
   abbrev Whole : Fault → Type 0
@@ -43,17 +57,21 @@ module _ (text : Bytes) where
   line_shown : (f : Fault) → Whole f → record_line text (record_of f) ≡ fault_line f
   line_shown f (k, (x, c)) = rw (number_again f.kind k.least k.most, x, c)
 
-  lines_from : (fs : List Fault) (after : List ℕ) → ((i : ℕ) (f : Fault) → nth_fault fs i ≡ some f → Whole f)
-      → record_lines text (length fs) (records fs ++ after) ≡ fault_lines fs
-  lines_from [] q h = refl
-  lines_from (f ∷ fs) q h =
-      let long : leb 7 (length (record7 f ++ (records fs ++ q))) ≡ true = le-leb 7 _ (omega arith) in
-      rw long (both (line_shown f (h 0 f refl)) (lines_from fs q (λ i g x. h (suc i) g x)))
+  lines_from : (fs : List Fault) (before after : List ℕ) (j : ℕ) → length before ≡ 7 * j
+      → ((i : ℕ) (f : Fault) → nth_fault fs i ≡ some f → Whole f)
+      → record_lines text (before ++ (records fs ++ after)) j (length fs) ≡ fault_lines fs
+  lines_from [] p q j e h = refl
+  lines_from (f ∷ fs) p q j e h =
+      let ns : List ℕ = p ++ (record7 f ++ (records fs ++ q)) in
+      let r : record_in ns (7 * j) ≡ record_of f = ap (record_in ns) (sym e) ∙ record_here p f (records fs ++ q) in
+      both (ap (record_line text) r ∙ line_shown f (h 0 f refl))
+      (ap (λ (l : List ℕ). record_lines text l (j + 1) (length fs)) (sym (append_assoc p (record7 f) (records fs ++ q)))
+      ∙ lines_from fs (p ++ record7 f) q (j + 1) (omega (arith, length-append p (record7 f))) (λ i g x. h (suc i) g x))
 
   -- those of all faults, in a report that is written over what was there
   lines_reported : (fs : List Fault) (old : List ℕ) → ((j : ℕ) (f : Fault) → nth_fault fs j ≡ some f → Whole f)
-      → record_lines text (length fs) (over (records fs) old) ≡ fault_lines fs
-  lines_reported fs old = lines_from fs (drop (length (records fs)) old)
+      → record_lines text (over (records fs) old) 0 (length fs) ≡ fault_lines fs
+  lines_reported fs old = lines_from fs [] (drop (length (records fs)) old) 0 refl
 
 -- ---- what `report` says, where it left the numbers ns in the report buffer
 module _ (text : Bytes) (work old : List ℕ) (long : length work ≡ shortest_work) (room : length old ≡ report_buffer) (ns : List ℕ) where
@@ -63,9 +81,9 @@ module _ (text : Bytes) (work old : List ℕ) (long : length work ≡ shortest_w
   here : {a : Answer} → Says a → Gives (report text shortest_work report_buffer) old ns a
   here e = rw (long, room) at e
 
-  pub print_written : (k : ℕ) → Says (written k) → record_lines text k ns ++ line_with "faults" (decimal_of k ∷ []) ≡ printed text
+  pub print_written : (k : ℕ) → Says (written k) → record_lines text ns 0 k ++ line_with "faults" (decimal_of k ∷ []) ≡ printed text
   print_written k e =
-      by_answer text (λ a b. Gives a old ns (written k) → record_lines text k ns ++ line_with "faults" (decimal_of k ∷ []) ≡ b)
+      by_answer text (λ a b. Gives a old ns (written k) → record_lines text ns 0 k ++ line_with "faults" (decimal_of k ∷ []) ≡ b)
       (λ i n d. absurd cc)
       (λ t g few d.
       let i : k ≡ length (faults t) = cc in

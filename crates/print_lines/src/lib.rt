@@ -1,7 +1,7 @@
 // The lines that `namecheck` prints, pushed to an output one after the other, as much as there is room for.
 #![tactic(auto)]
 
-ghost use Rattle.std.specs.Prelude.{◌≡◌, [], ◌∷◌, ◌≤◌, length};
+ghost use Rattle.std.specs.Prelude.{◌≡◌, [], ◌∷◌, drop, get_or};
 ghost use Rattle.spec_answers.specs.Printed.{refused_line};
 ghost use Rattle.spec_text.specs.Writing.{decimal_of, line_with};
 ghost use Rattle.write_bytes.specs.OutputModel.{Pushed};
@@ -15,23 +15,29 @@ use serduzhap::ReportError;
 use spec_faults::FaultKind;
 use write_bytes::Output;
 
-// The record that has these seven numbers.
+// A number of the report, and 0 past its end.
+fn number_at(numbers: &[u32], i: usize) -> u32
+    ensures { result ≡ get_or numbers.now i 0 }
+{
+    numbers.get(i).copied().unwrap_or(0)
+}
+
+// The record that a part of the report begins with; a number that is not there is 0.
 // Kept: here, and no From beside `Record::put`: only what is printed is read back, and a slice may be shorter.
 fn record_of(numbers: &[u32]) -> Record
-    requires { 7 ≤ length numbers.now }
-    ensures { result ≡ record_in numbers.now }
+    ensures { result ≡ record_in numbers.now 0 }
 {
     Record {
-        kind: FaultKind::by_number(numbers[0] as usize),
-        start: numbers[1],
-        end: numbers[2],
+        kind: FaultKind::by_number(number_at(numbers, 0) as usize),
+        start: number_at(numbers, 1),
+        end: number_at(numbers, 2),
         name: NamePart {
-            offset: numbers[3] as usize,
-            len: numbers[4] as usize,
+            offset: number_at(numbers, 3) as usize,
+            len: number_at(numbers, 4) as usize,
         },
         class: NamePart {
-            offset: numbers[5] as usize,
-            len: numbers[6] as usize,
+            offset: number_at(numbers, 5) as usize,
+            len: number_at(numbers, 6) as usize,
         },
     }
 }
@@ -49,12 +55,22 @@ fn push_fault(text: &[u8], output: &mut Output, r: Record)
     output.push_byte(b'\n');
 }
 
-// Pushes the lines of so many faults, or of as many as the report has records.
-pub fn push_faults(text: &[u8], report: &[u32], count: usize, output: &mut Output)
-    ensures { Pushed output.old (record_lines text.now count report.now) output.new }
+// What stands after the record that a part begins with; nothing, where it is shorter.
+fn after_record(numbers: &[u32]) -> &[u32]
+    ensures { result.now ≡ drop 7 numbers.now }
 {
-    for numbers in report.chunks_exact(RECORD).take(count) {
-        push_fault(text, output, record_of(numbers));
+    numbers.get(RECORD..).unwrap_or(&[])
+}
+
+// Pushes the lines of so many faults.
+// Kept: no `chunks_exact`, which ends with the report: so many lines are promised, also for a report that is shorter.
+pub fn push_faults(text: &[u8], report: &[u32], count: usize, output: &mut Output)
+    ensures { Pushed output.old (record_lines text.now report.now 0 count) output.new }
+{
+    let mut rest = report;
+    for _ in 0..count {
+        push_fault(text, output, record_of(rest));
+        rest = after_record(rest);
     }
 }
 

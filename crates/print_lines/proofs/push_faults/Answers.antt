@@ -1,31 +1,22 @@
--- Line after line: each turn takes the next seven numbers; at the end no record is left, or as many as were wanted are pushed.
-use Rattle.std.proofs.Common.{arith, ◌≡◌, subst}
+-- Line after line: each turn pushes the line of the record that the rest begins with, and goes on after it.
+use Rattle.std.proofs.Common.{arith, ◌*◌, ◌∙◌, refl, ap, subst, drop, drop-drop}
 use Rattle.report_records.specs.declared.Record.{Record}
 use Rattle.write_bytes.specs.OutputModel.{Pushed}
-use Rattle.print_lines.specs.LinesModel.{record_line}
-use Rattle.print_lines.proofs.Lines.{left_all, left_more, left_none}
+use Rattle.write_bytes.proofs.Pushed.{pushed_nothing, pushed_then}
+use Rattle.print_lines.specs.LinesModel.{record_in, record_line}
+use Rattle.print_lines.proofs.Lines.{lines_more}
 use Rattle.print_lines.proofs.push_faults.Goals as goal
 
-pub loop-numbers-init : goal.loop-numbers-init
-loop-numbers-init c =
-    let size : c.into_iter-numbers-iterator.result.iter.size ≡ 7 = cc in
-    let count : c.into_iter-numbers-iterator.result.n ≡ c.args.count = cc in
-    let rest : c.into_iter-numbers-iterator.result.iter.rest.now ≡ c.args.report.now = cc in
-    record { size = size; left = left_all c.args.text.now c.args.output.now count rest }
+pub loop-init : goal.loop-init
+loop-init c = record { after = refl; pushed = pushed_nothing c.args.output.now }
 
-pub loop-numbers-preserved : goal.loop-numbers-preserved
-loop-numbers-preserved c =
-    let h = c.loop-numbers.invariant in
-    let text = c.args.text.now in
-    let numbers = c.in-Some.numbers.now in
-    let step = c.in-Some.ensures.steps in
-    let line = subst (λ (r : Record). Pushed c.loop-numbers.output (record_line text r) c.push_fault.new.output) c.record_of.ensures c.push_fault.ensures in
+pub loop-preserved : goal.loop-preserved
+loop-preserved c =
+    let h = c.loop.invariant in
+    let a = c.args in
+    let line = subst (λ (r : Record). Pushed c.loop.output (record_line a.text.now r) c.push_fault.new.output)
+    (c.record_of.ensures ∙ ap (λ ns. record_in ns 0) h.after) c.push_fault.ensures in
     record {
-      size = omega (arith, step.0.0, h.size);
-      left = left_more text numbers c.next.new.self.iter.rest.now step.0.1.0 (omega (arith, step.0.1.1, h.size)) step.1 h.left line;
+      after = c.after_record-rest.ensures ∙ (ap (drop 7) h.after ∙ (drop-drop 7 (7 * c.loop.counter) a.report.now ∙ ap (λ n. drop n a.report.now) (omega arith)));
+      pushed = rw (lines_more a.text.now a.report.now c.loop.counter) (pushed_then h.pushed line);
     }
-
-pub returns : goal.returns
-returns c =
-    let h = c.loop-numbers.invariant in
-    left_none c.args.text.now (λ l. omega (arith, (c.in-None.ensures.steps l).1.0, h.size)) h.left
