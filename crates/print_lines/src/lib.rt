@@ -16,6 +16,7 @@ use spec_faults::FaultKind;
 use write_bytes::Output;
 
 // A number of the report, and 0 past its end.
+// Kept: a line of std, as in work_rows::get and read_bytes::byte_at; one function for all three would convert as well.
 fn number_at(numbers: &[u32], i: usize) -> u32
     ensures { result ≡ get_or numbers.now i 0 }
 {
