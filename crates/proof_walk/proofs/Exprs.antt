@@ -19,6 +19,7 @@ use Rattle.walk_scopes.specs.ScopesModel.{Scope, in_lambda, stack_of}
 use Rattle.read_row.specs.Worded.{WordedE, WordedEs}
 use Rattle.walk_judge.specs.JudgeModel.{read_of}
 use Rattle.walk_blocks.specs.BlocksModel.{opened}
+use Rattle.walk_tree.proofs.Ways.{after_on}
 use Rattle.walk_tree.specs.WalkModel.{walk, expr_at, walk_expr, walk_body, walk_stmts, walk_exprs}
 use Rattle.proof_walk.specs.Table.{ParamWord, lambda as lambdaWord, Table, Here}
 use Rattle.proof_walk.specs.Notes.{OwnNames, Told}
@@ -57,10 +58,6 @@ around_part a b c = record {
 inner_outer : {s : Scope} {v : Env} {r stop : ℕ} {ls : List Placed} → Under s v r stop ls → s.inner ≤ s.outer
 inner_outer (flat f) = omega (arith, f.inner)
 inner_outer (under d) = d.wide
-
--- ---- loops
-after_on : (w : List ℕ) (i : ℕ) → i < after_row w i
-after_on w i = omega arith
 
 -- ---- the row of an expression, by its kind
 module _ (k : ℕ) (text : Bytes) (s : Scope) (called : Bool) (i : ℕ) (w : List ℕ) (few : i < 4_096) where

@@ -1,6 +1,6 @@
 -- The walk of a target: one loop over its rows binds the names of its `var` lines, walks what index and get have below them, and notes
 -- a fault at each line of another kind. By recursion over the target: the loop comes past each part of it.
-use Rattle.std.proofs.Common.{ℕ, suc, ◌+◌, ◌≤◌, ◌<◌, add-one, arith, ◌≡◌, refl, sym, ap, ap₂, ◌∙◌, Bool, true, false, cond, not, ◌&&◌, List, [], ◌∷◌, ◌++◌, eqb, length}
+use Rattle.std.proofs.Common.{ℕ, suc, ◌+◌, ◌≤◌, ◌<◌, add-one, arith, ◌≡◌, refl, sym, ap, ap₂, ◌∙◌, Bool, true, false, not, ◌&&◌, List, [], ◌∷◌, ◌++◌, eqb, length}
 use Rattle.std.proofs.lemmas.Bool.{false≢true}
 use Rattle.spec_text.specs.Bytes.{Bytes, Part}
 use Rattle.spec_text.specs.Tree.{Line, Expr, Exprs, var, node, access, tuple, call, lambda, enil, econs, len_e, len_es}
@@ -16,6 +16,7 @@ use Rattle.work_rows.specs.LoopsModel.{rows_to}
 use Rattle.work_rows.proofs.Loops.{rows_more}
 use Rattle.walk_scopes.specs.ScopesModel.{Scope, defined}
 use Rattle.read_row.specs.Worded.{AccessWord, index, get, WordedE, WordedEs}
+use Rattle.walk_tree.proofs.Ways.{target_on}
 use Rattle.walk_tree.specs.WalkModel.{next_target, target_at, walk_expr}
 use Rattle.proof_walk.specs.Table.{Here}
 use Rattle.proof_walk.specs.Notes.{OwnNames, notes_t, notes_ts, Told}
@@ -27,14 +28,6 @@ use Rattle.proof_walk.proofs.Exprs.{Flat, exprs_walked}
 use Rattle.proof_walk.proofs.Done.{Done, Spans, done_then, done_skip, done_fault, done_bind, done_to, Looped, looped_one, looped_then, looped_to}
 
 -- ---- one row of the loop
-next_on : (w : List ℕ) (i : ℕ) → i < next_target w i
-unfolding next_target
-next_on w i = go (eqb (kind_at w i) 24)
-  where
-    go : (b : Bool) → i < cond b (i + 1) (after_row w i)
-    go true = omega arith
-    go false = omega arith
-
 -- a kind that no target has
 abbrev no_target : ℕ → Bool
 no_target k = not (eqb k 17) && (not (eqb k 24) && (not (eqb k 20) && not (eqb k 22)))
@@ -78,7 +71,7 @@ turns text k s stop r w = rows_to next_target (target_at (walk_expr k text false
 turn : (text : Bytes) (k : ℕ) (s : Scope) (stop : ℕ) {r i j : ℕ} {w y z : List ℕ} → r < stop → Turn (walk_expr k text false s) s r w y i → y ≡ z → i ≡ j
     → turns text k s stop r w ≡ turns text k s stop j z
 turn text k s stop {r} {w = w} l t p q =
-    rows_more next_target (target_at (walk_expr k text false s) s) next_on r stop w l ∙ ap₂ (turns text k s stop) (t.next ∙ q) (t.does ∙ p)
+    rows_more next_target (target_at (walk_expr k text false s) s) target_on r stop w l ∙ ap₂ (turns text k s stop) (t.next ∙ q) (t.does ∙ p)
 
 module _ {text : Bytes} {rows : List Row} {num : Bytes → ℕ} {own : OwnNames} {s : Scope} {v : Env} (flat : Flat s v) (room : s.end ≤ length rows) (k stop : ℕ) (end : stop ≤ s.end) where
   -- a line of another kind
