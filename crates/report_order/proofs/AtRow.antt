@@ -1,4 +1,4 @@
--- What is listed at a row by the tests of the code, one row more, and how many entries rows have.
+-- What is listed at a row by the tests of the code, what is around the rows below it, one row more, and how many entries rows have.
 use Rattle.std.proofs.Common.{ℕ, zero, suc, ◌+◌, ◌*◌, ◌-◌, ◌≤◌, ◌<◌, arith, ◌≡◌, ap, Bool, true, false, cond, ◌||◌, List, [], ◌∷◌, ◌++◌, append-nil, eqb, length, length-append, ne_eqb, le-leb}
 use Rattle.std.proofs.lemmas.Bool.{lt-leb}
 use Rattle.spec_faults.specs.Faults.{capture}
@@ -6,8 +6,18 @@ use Rattle.work_rows.specs.Layout.{kind_at, lines_below, after_row}
 use Rattle.report_order.specs.declared.Around.{Around}
 use Rattle.report_order.specs.declared.list.Entries.{Entries}
 use Rattle.report_order.specs.ListModel.{Listed}
-use Rattle.report_order.specs.OrderModel.{entry, slot_in, captured, captures, called, itself, new_lambda, around, placed_at, entries_from}
+use Rattle.report_order.specs.OrderModel.{entry, slot_in, captured, captures, called, itself, new_lambda, new_class, around, placed_at, entries_from}
 use Rattle.report_order.proofs.Stored.{captures_same, called_same, entries_same, listed_then, Left, left_more, left_none}
+
+-- ---- what is around the rows below: a class is a row
+module _ (w : List ℕ) (x : Around) (p : ℕ) where
+  pub class_few : p ≤ 4_096 → x.class ≤ 4_096 → (around w x p).class ≤ 4_096
+  unfolding around
+  class_few l m = go (new_class w x p)
+    where
+      go : (b : Bool) → cond b p x.class ≤ 4_096
+      go true = l
+      go false = m
 
 -- ---- one row more
 module _ (here : Entries) (p i stop : ℕ) {all : List ℕ} {start : Entries} (left : Left (captures here.work.now p (stop - i) i) here all start) where

@@ -5,7 +5,6 @@ use Rattle.std.specs.List.{list_any, range_with_len}
 use Rattle.spec_faults.specs.Faults.{capture}
 use Rattle.spec_faults.specs.declared.fault_kind.FaultKind.{FaultKind}
 use Rattle.spec_faults.specs.Kinds.{kind_number}
-use Rattle.spec_faults.specs.KindsModel.{kind_by_number}
 use Rattle.work_rows.specs.Layout.{put, rows_most, kind_at, lines_below, after_row}
 use Rattle.work_marks.specs.MarksModel.{slot_at}
 use Rattle.work_marks.specs.Signs.{fault_of}
@@ -90,7 +89,7 @@ stored (e ∷ es) j w = stored es (j + 1) (put w (entry_base + j) e)
 
 -- the entry of a number, and the j-th
 abbrev pub entry_of : ℕ → Entry
-entry_of n = record { kind = kind_by_number (n / 67_108_864); of = n / 8_192 % 8_192; row = n % 8_192 }
+entry_of n = record { kind = n / 67_108_864; of = n / 8_192 % 8_192; row = n % 8_192 }
 
 abbrev pub entry_at : List ℕ → ℕ → Entry
 entry_at w j = entry_of (get_or w (entry_base + j) 0)

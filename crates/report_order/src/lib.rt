@@ -21,9 +21,10 @@ const ENTRY_ROWS: usize = 8192;
 
 const ENTRY_KINDS: usize = 67108864;
 
+// Kept: a number and no `FaultKind`, since an entry is read from any buffer, and there any number may stand.
 #[derive(Clone, Copy, PartialEq, Eq)]
 pub struct Entry {
-    pub kind: FaultKind,
+    pub kind: usize,
     pub of: usize,
     pub row: usize,
 }
@@ -31,9 +32,10 @@ pub struct Entry {
 impl Entry {
     // 32 bits of it are written, so that the sum may wrap.
     fn number(self) -> usize
-        ensures { result % 4294967296 ≡ entry (kind_number self.kind) self.of self.row % 4294967296 }
+        ensures { result % 4294967296 ≡ entry self.kind self.of self.row % 4294967296 }
     {
-        (ENTRY_KINDS * self.kind.number())
+        ENTRY_KINDS
+            .wrapping_mul(self.kind)
             .wrapping_add(ENTRY_ROWS.wrapping_mul(self.of))
             .wrapping_add(self.row)
     }
@@ -42,7 +44,7 @@ impl Entry {
         ensures { result ≡ entry_of number }
     {
         Entry {
-            kind: FaultKind::by_number(number / ENTRY_KINDS),
+            kind: number / ENTRY_KINDS,
             of: number / ENTRY_ROWS % ENTRY_ROWS,
             row: number % ENTRY_ROWS,
         }

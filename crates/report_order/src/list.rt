@@ -1,6 +1,5 @@
 // The list of the entries that are written to the work buffer, past the rows and the slots.
 ghost use Rattle.std.specs.Prelude.{◌≡◌, [], ◌∷◌, ◌+◌, ◌-◌, ◌<◌, ◌≤◌};
-ghost use Rattle.spec_faults.specs.Kinds.{kind_number};
 ghost use Rattle.report_order.specs.OrderModel.{entry, fault_in, captured, captures, called, itself, around, placed_at, entries};
 ghost use Rattle.report_order.specs.ListModel.{Listed};
 
@@ -54,7 +53,7 @@ impl<'a> Entries<'a> {
     // many entries.
     #[tactic(auto, unfolding(crate::specs::OrderModel::stored))]
     fn add(&mut self, e: Entry)
-        ensures { Listed self.old (entry (kind_number e.kind) e.of e.row ∷ []) self.new }
+        ensures { Listed self.old (entry e.kind e.of e.row ∷ []) self.new }
     {
         work_rows::put(self.work, ENTRY_BASE.saturating_add(self.count), e.number());
         self.count = self.count.saturating_add(1);
@@ -70,7 +69,7 @@ impl<'a> Entries<'a> {
         };
         if is_capture(kind) {
             self.add(Entry {
-                kind,
+                kind: kind.number(),
                 of: p,
                 row: i,
             });
@@ -99,7 +98,7 @@ impl<'a> Entries<'a> {
         };
         if is_called(kind) {
             self.add(Entry {
-                kind,
+                kind: kind.number(),
                 of: p,
                 row: p + 1,
             });
@@ -116,13 +115,13 @@ impl<'a> Entries<'a> {
         };
         if is_its_own_place(kind) {
             self.add(Entry {
-                kind,
+                kind: kind.number(),
                 of: p,
                 row: p,
             });
         } else if kind == FaultKind::MethodWithoutSelf {
             self.add(Entry {
-                kind,
+                kind: kind.number(),
                 of: class,
                 row: p,
             });
