@@ -1,5 +1,5 @@
--- What a table of texts says of a kind: the words of its line.
-use Rattle.std.proofs.Common.{ℕ, zero, suc, ◌+◌, ◌-◌, ◌≤◌, ◌<◌, arith, ◌≡◌, refl, sym, ap, subst, ◌∙◌, List, ◌++◌, eq-eqb, ne_eqb}
+-- What a table of texts says: of a kind that it has, the words of its line; of any other, nothing.
+use Rattle.std.proofs.Common.{ℕ, zero, suc, ◌+◌, ◌-◌, ◌≤◌, ◌<◌, arith, ◌≡◌, refl, sym, ap, subst, ◌∙◌, List, [], ◌++◌, ◌⊎◌, inl, inr, eq-eqb, ne_eqb}
 use Rattle.spec_text.specs.Bytes.{Bytes}
 use Rattle.spec_faults.specs.Faults.{Words, written, message_from, message}
 use Rattle.read_fields.specs.FieldsModel.{field_at}
@@ -30,6 +30,12 @@ module _ (texts x c : Bytes) where
       let e : k + suc j ≡ suc k + j = omega arith in
       rw (ne_eqb (k + suc j) k (λ h. omega arith), message_from, e) (said n j (suc k) (next_words texts at) (omega arith))
 
+  -- a kind outside
+  unsaid : (n m k at : ℕ) → (m < k) ⊎ (k + n ≤ m) → message_from (table_from n k texts at) m x c ≡ []
+  unsaid zero m k at h = refl
+  unsaid (suc n) m k at (inl l) = rw (ne_eqb m k (λ h. omega arith), message_from) (unsaid n m (suc k) (next_words texts at) (inl (omega arith)))
+  unsaid (suc n) m k at (inr l) = rw (ne_eqb m k (λ h. omega arith), message_from) (unsaid n m (suc k) (next_words texts at) (inr (omega arith)))
+
   module _ (rule : Rule texts) where
     by_table : (k : ℕ) → message k x c ≡ message_from (table_from 8 8 texts 0) k x c
     by_table k = ap (λ (ws : List Words). message_from ws k x c) (sym rule.table)
@@ -38,6 +44,10 @@ module _ (texts x c : Bytes) where
     message_at k l m =
         let e : 8 + (k - 8) ≡ k = omega arith in
         by_table k ∙ subst (λ (i : ℕ). message_from (table_from 8 8 texts 0) i x c ≡ written (words_at 8 texts (words_start (k - 8) texts 0)) x c) e (said 8 (k - 8) 8 0 (omega arith))
+
+    pub message_none : (k : ℕ) → (k < 8) ⊎ (15 < k) → message k x c ≡ []
+    message_none k (inl l) = by_table k ∙ unsaid 8 k 8 0 (inl l)
+    message_none k (inr l) = by_table k ∙ unsaid 8 k 8 0 (inr (omega arith))
 
     -- the words as they are found: where the line starts, where its second and third field start, and the three fields
     module _ (k : ℕ) (l : 8 ≤ k) (m : k ≤ 15) (i j o : ℕ) (f g h : Bytes)

@@ -1,12 +1,13 @@
 // Messages in the Rust's words: the words of a kind, from one table, round the names.
 #![tactic(auto)]
 
-ghost use Rattle.std.specs.Prelude.{◌≡◌, ◌++◌, ◌+◌, ◌*◌, ◌<◌, ◌≤◌, length};
+ghost use Rattle.std.specs.Prelude.{◌≡◌, [], ◌++◌, ◌+◌, ◌*◌, ◌<◌, ◌≤◌, length};
 ghost use Rattle.write_bytes.specs.OutputModel.{Pushed};
+ghost use Rattle.report_records.specs.RecordsModel.{numbers_of};
 ghost use Rattle.report_messages.specs.MessagesModel.{record_message, whole};
 ghost use Rattle.report_messages.specs.TextsModel.{past_field, words_start, Rule};
 
-use report_records::Record;
+use report_records::{Record, RecordNumbers};
 use spec_faults::FaultKind;
 use write_bytes::Output;
 
@@ -59,14 +60,24 @@ pub struct Message<'a> {
 impl<'a> Message<'a> {
     // The message of a record.
     pub fn of(text: &'a [u8], r: Record) -> Message<'a>
+        ensures message { whole result ≡ record_message text.now (numbers_of r) }
+        ensures short { length (whole result) ≤ 12288 + 2 * length text.now }
+    {
+        Message::of_numbers(text, r.numbers())
+    }
+
+    // The message of a record's numbers; of a number that is no kind, no bytes.
+    pub fn of_numbers(text: &'a [u8], r: RecordNumbers) -> Message<'a>
         ensures message { whole result ≡ record_message text.now r }
         ensures short { length (whole result) ≤ 12288 + 2 * length text.now }
     {
+        let first = FaultKind::UndefinedVariable.number();
+        let last = FaultKind::MethodWithoutSelf.number();
+        if r.kind < first || last < r.kind {
+            return Message::empty();
+        }
         let texts = TEXTS;
-        let a = words_start(
-            texts,
-            r.kind.number() - FaultKind::UndefinedVariable.number(),
-        );
+        let a = words_start(texts, r.kind - first);
         let b = past_field(texts, a);
         let c = past_field(texts, b);
         Message {
@@ -75,6 +86,19 @@ impl<'a> Message<'a> {
             between: read_fields::field(texts, b),
             class: r.class.of(text),
             after: read_fields::field(texts, c),
+        }
+    }
+
+    // No words and no names.
+    fn empty() -> Message<'a>
+        ensures { whole result ≡ [] }
+    {
+        Message {
+            before: &[],
+            name: &[],
+            between: &[],
+            class: &[],
+            after: &[],
         }
     }
 

@@ -1,15 +1,14 @@
--- The words of the kind's line, round the two names. antt computes that the table of src/lib.rt keeps the rule, over the whole of it.
+-- Of a kind that has a text, the words of its line round the two names; any other number has no message. antt computes that the table of
+-- src/lib.rt keeps the rule, over the whole of it.
 use Rattle.std.proofs.Common.{◌≡◌, ◌≤◌, ◌-◌, length, ap, ap₂, ◌∙◌, arith, length-append, refl}
 use Rattle.spec_text.specs.Bytes.{part_of}
 use Rattle.spec_faults.specs.Faults.{message}
-use Rattle.spec_faults.specs.Kinds.{kind_number}
-use Rattle.spec_faults.proofs.KindNumbers.{from_eight}
 use Rattle.read_fields.specs.FieldsModel.{field}
 use Rattle.report_messages.specs.TextsModel.{words_start, Rule}
 use Rattle.report_messages.specs.declared.TheConstants.{TEXTS}
 use Rattle.report_messages.proofs.Table.{message_found}
 use Rattle.report_messages.proofs.Lengths.{part_fits, field_fits}
-use Rattle.report_messages.proofs.Message.of.Goals as goal
+use Rattle.report_messages.proofs.Message.of_numbers.Goals as goal
 
 rule : Rule TEXTS.now
 unfolding field
@@ -19,14 +18,13 @@ pub returns-clause-message : goal.returns-clause-message
 returns-clause-message c =
     let a = c.args in
     let r = a.r in
-    let k = from_eight r.kind in
-    let line : c.number.result - c.number-2.result ≡ kind_number r.kind - 8 = omega (arith, c.number.ensures, c.number-2.ensures) in
+    let line : r.kind - c.number-first.result ≡ r.kind - 8 = omega (arith, c.number-first.ensures) in
     let name : c.of.result.now ≡ part_of a.text.now r.name.offset r.name.len = c.of.ensures in
     let class : c.of-2.result.now ≡ part_of a.text.now r.class.offset r.class.len = c.of-2.ensures in
-    message_found TEXTS.now c.of.result.now c.of-2.result.now rule (kind_number r.kind) k.0 k.1 _ _ _ _ _ _
+    message_found TEXTS.now c.of.result.now c.of-2.result.now rule r.kind (omega arith) (omega arith) _ _ _ _ _ _
     (c.words_start-a.ensures.0 ∙ ap (λ n. words_start n TEXTS.now 0) line) c.past_field-b.ensures.0 c.past_field-c.ensures.0
     c.field.ensures c.field-2.ensures c.field-3.ensures
-    ∙ ap₂ (message (kind_number r.kind)) name class
+    ∙ ap₂ (message r.kind) name class
 
 pub returns-clause-short : goal.returns-clause-short
 returns-clause-short c =
