@@ -73,11 +73,13 @@ module _ (text : Bytes) (work : ℕ) (t : Tree) (e : reading text work ≡ tree 
       every j f at =
           let p = pair_at shown j f at in
           let m = fault_of_lem (faults_fit text work t e) j f at in
+          let k = fault_of_lem (kinds t) j f at in
           record {
-            record' = record_shown text (rows_t t) after table.few (omega (arith, kept.long, table.room)) line listed (omega (arith, pairs_length shown, few)) j f (fault_of_lem (kinds t) j f at) p.0 p.1;
+            record' = record_shown text (rows_t t) after table.few (omega (arith, kept.long, table.room)) line listed (omega (arith, pairs_length shown, few)) j f p.0 p.1;
             name = m.name.shown;
             class = m.class.shown;
             kind = m.kind;
+            kind_least = k.least;
             start = m.start;
             end = m.end;
             name_at = omega (arith, m.name.inside, text_length text work t e);

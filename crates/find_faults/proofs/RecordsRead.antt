@@ -5,17 +5,12 @@ use Rattle.std.proofs.Math.Option.{some}
 use Rattle.std.proofs.lemmas.Bool.{eqb-false}
 use Rattle.spec_text.specs.Bytes.{Bytes, Part, no_part}
 use Rattle.spec_text.specs.Tree.{Line}
-use Rattle.spec_faults.specs.declared.fault_kind.FaultKind.{FaultKind}
-use Rattle.spec_faults.specs.Kinds.{kind_number}
-use Rattle.spec_faults.specs.KindsModel.{kind_by_number}
 use Rattle.spec_faults.specs.Faults.{Fault, record7}
-use Rattle.spec_faults.proofs.FaultKinds.{FromEight}
 use Rattle.spec_answers.specs.Answers.{nth_fault}
 use Rattle.read_bytes.specs.declared.name_part.NamePart.{NamePart}
 use Rattle.read_line.specs.declared.Line.{Line as Numbers}
 use Rattle.read_row.specs.RowModel.{line_of_row}
 use Rattle.report_order.specs.OrderModel.{stored, entry_at}
-use Rattle.spec_faults.proofs.KindNumbers.{number_again}
 use Rattle.report_records.specs.RecordsModel.{absent, of_lines, record_of, numbers}
 use Rattle.proof_order.specs.Shown.{Shows, Pairs, line_in, of_entry, row_entry}
 use Rattle.work_rows.specs.Rows.{Row}
@@ -59,25 +54,25 @@ pub record Reads (l : Line) (n : Numbers) : Type 0 where
   pub end : n.end ≡ l.end
   pub name : n.name ≡ place l.name
 
-lines_show : (rows : List Row) (e : ℕ) (f : Fault) (k : FaultKind) (of row : Numbers) → kind_number k ≡ f.kind → Shows rows e f → Reads (line_in rows (of_entry e)) of
-    → Reads (line_in rows (row_entry e)) row → numbers (of_lines k of row) ≡ record7 f
-lines_show rows e f k of row is s a b =
+lines_show : (rows : List Row) (e : ℕ) (f : Fault) (of row : Numbers) → Shows rows e f → Reads (line_in rows (of_entry e)) of → Reads (line_in rows (row_entry e)) row
+    → numbers (of_lines f.kind of row) ≡ record7 f
+lines_show rows e f of row s a b =
     let start : of.start ≡ f.start = a.start ∙ s.start in
     let end : of.end ≡ f.end = a.end ∙ s.end in
     let name : cond (eqb f.kind 14) absent row.name ≡ place f.name = left f.kind 14 _ _ (λ d. b.name ∙ ap place (s.name d)) s.no_name in
     let class : cond (eqb f.kind 15) of.name absent ≡ place f.in_class = picked f.kind 15 _ _ (λ d. a.name ∙ ap place (s.class d)) s.no_class in
-    rw (is, start, end, name, class)
+    rw (start, end, name, class)
 
 -- ---- the entry j
 module _ (text : Bytes) (rows : List Row) (w : List ℕ) (few : length rows ≤ 4_096) (room : 16_384 ≤ length w)
     (line : (i : ℕ) → i < length rows → Reads (line_in rows i) (line_of_row text w i)) where
-  pub record_shown : (es : List ℕ) → length es ≤ 4_096 → (j : ℕ) (f : Fault) → FromEight f → j < length es → Shows rows (get_or es j 0) f
+  pub record_shown : (es : List ℕ) → length es ≤ 4_096 → (j : ℕ) (f : Fault) → j < length es → Shows rows (get_or es j 0) f
       → numbers (record_of text (stored es 0 w) (entry_at (stored es 0 w) j)) ≡ record7 f
   unfolding record_of
-  record_shown es short j f kind l s =
+  record_shown es short j f l s =
       let n : ℕ = get_or es j 0 in
       let v : List ℕ = stored es 0 w in
       let there : (i : ℕ) → i < length rows → Reads (line_in rows i) (line_of_row text v i) =
       λ i m. subst (Reads (line_in rows i)) (sym (line_stored es w text i (omega arith))) (line i m) in
       rw (entry_stored es w j l short room s.small, s.kind)
-      (lines_show rows n f (kind_by_number f.kind) (line_of_row text v (of_entry n)) (line_of_row text v (row_entry n)) (number_again f.kind kind.least kind.most) s (there (of_entry n) s.of) (there (row_entry n) s.row))
+      (lines_show rows n f (line_of_row text v (of_entry n)) (line_of_row text v (row_entry n)) s (there (of_entry n) s.of) (there (row_entry n) s.row))

@@ -1,5 +1,5 @@
 -- What `find` answers, and what the work buffer holds then: an entry for each fault, in the report's order, from which its record is read.
-use Rattle.std.specs.Prelude.{ℕ, ◌<◌, ◌≡◌, List, length, Result, Ok, Err}
+use Rattle.std.specs.Prelude.{ℕ, ◌≤◌, ◌<◌, ◌≡◌, List, length, Result, Ok, Err}
 use Rattle.std.proofs.Math.Option.{some}
 use Rattle.spec_text.specs.Bytes.{Bytes, Part, part_of}
 use Rattle.spec_text.specs.Reading.{Reading, tree, refusal}
@@ -20,6 +20,7 @@ pub record Shows (text : Bytes) (w : List ℕ) (j : ℕ) (f : Fault) : Type 0 wh
   pub name : Shown text f.name
   pub class : Shown text f.in_class
   pub kind : f.kind < 16
+  pub kind_least : 8 ≤ f.kind
   pub start : f.start < 4_294_967_296
   pub end : f.end < 4_294_967_296
   pub name_at : f.name.offset < 4_294_967_296
