@@ -5,7 +5,7 @@ use Rattle.std.proofs.Math.Seq.{take-append_seam, drop-append-add}
 use Rattle.spec_text.specs.Bytes.{Bytes}
 use Rattle.spec_answers.specs.Answers.{over}
 use Rattle.report_records.specs.RecordsModel.{numbers32}
-use Rattle.report_records.specs.declared.Record.{Record}
+use Rattle.report_records.specs.declared.RecordNumbers.{RecordNumbers}
 use Rattle.write_records.specs.WriteModel.{records_of, record_at}
 
 -- ---- more is written after what was written
@@ -51,7 +51,7 @@ module _ (text : Bytes) (w : List ℕ) where
     rest_length : length rest ≡ left
     rest_length = length-drop (7 * j) out
 
-    put_rest : (r : Record) {part : List ℕ} → part ≡ take (length (take left rest)) (numbers32 r) ++ drop 7 (take left rest)
+    put_rest : (r : RecordNumbers) {part : List ℕ} → part ≡ take (length (take left rest)) (numbers32 r) ++ drop 7 (take left rest)
         → take (7 * j) out ++ (part ++ drop left rest) ≡ take (7 * j) out ++ (numbers32 r ++ drop (7 * j + 7) out)
     put_rest r e =
         let all : take left rest ≡ rest = take_all left rest (omega (arith, rest_length)) in
@@ -60,7 +60,7 @@ module _ (text : Bytes) (w : List ℕ) where
         let past : drop 7 rest ≡ drop (7 * j + 7) out = drop-drop 7 (7 * j) out in
         rw (e, none, all, seven, past, append-nil (drop (7 * j + 7) out))
 
-    pub turn : {r : Record} {part : List ℕ} → out ≡ over (records_of text w 0 j) old → r ≡ record_at text w j
+    pub turn : {r : RecordNumbers} {part : List ℕ} → out ≡ over (records_of text w 0 j) old → r ≡ record_at text w j
         → part ≡ take (length (take left rest)) (numbers32 r) ++ drop 7 (take left rest)
         → take (7 * j) out ++ (part ++ drop left rest) ≡ over (records_of text w 0 (j + 1)) old
     turn {r} e f g =

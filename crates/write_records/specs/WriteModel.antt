@@ -3,9 +3,9 @@ use Rattle.std.specs.Prelude.{ℕ, zero, suc, ◌+◌, List, [], ◌++◌}
 use Rattle.spec_text.specs.Bytes.{Bytes}
 use Rattle.report_order.specs.OrderModel.{entry_at}
 use Rattle.report_records.specs.RecordsModel.{record_of, numbers32}
-use Rattle.report_records.specs.declared.Record.{Record}
+use Rattle.report_records.specs.declared.RecordNumbers.{RecordNumbers}
 
-abbrev pub record_at : Bytes → List ℕ → ℕ → Record
+abbrev pub record_at : Bytes → List ℕ → ℕ → RecordNumbers
 record_at text w j = record_of text w (entry_at w j)
 
 -- of n entries from the j-th on

@@ -14,6 +14,6 @@ pub fn write_records(text: &[u8], work: &[u32], out: &mut [u32], count: usize)
     ensures { out.new ≡ over (records_of text.now work.now 0 count) out.old }
 {
     for j in 0..count {
-        find_faults::record_at(text, work, j).put(&mut out[RECORD * j..]);
+        find_faults::numbers_at(text, work, j).put(&mut out[RECORD * j..]);
     }
 }

@@ -6,4 +6,4 @@ use Rattle.write_records.proofs.write_records.Goals as goal
 pub loop-j-preserved : goal.loop-j-preserved
 loop-j-preserved c =
     let a = c.args in
-    turn a.text.now a.work.now a.out.now c.loop-j.out c.loop-j.j (omega arith) c.loop-j.invariant c.record_at.ensures c.put.ensures
+    turn a.text.now a.work.now a.out.now c.loop-j.out c.loop-j.j (omega arith) c.loop-j.invariant c.numbers_at.ensures c.put.ensures
