@@ -8,12 +8,12 @@ use Rattle.spec_text.specs.Reading.{Reading, tree, refusal}
 use Rattle.spec_faults.specs.Faults.{Fault, faults, records}
 use Rattle.spec_answers.specs.Answers.{written, faulty, refused, first_record, check_of, Outcome, over, refusing, reported, report_of, wrote_if, message_or, message_in, nth_fault, name_of, name_in}
 use Rattle.read_bytes.specs.declared.name_part.NamePart.{NamePart}
-use Rattle.report_records.specs.RecordsModel.{numbers, absent}
+use Rattle.report_records.specs.RecordsModel.{numbers_of, record_by, numbers, absent}
 use Rattle.report_messages.specs.MessagesModel.{record_message}
 use Rattle.find_faults.specs.Found.{Finds, Kept, Listed}
 use Rattle.serduzhap.specs.Calls.{Gives, part_says}
 use Rattle.write_records.specs.WriteModel.{records_of, record_at}
-use Rattle.serduzhap.proofs.FaultWritten.{records_shown, name_shown, place_shown, message_shown, at_none, at_some}
+use Rattle.serduzhap.proofs.FaultWritten.{records_shown, name_shown, place_shown, message_shown, numbers_shown, at_none, at_some}
 
 -- ---- where a name stands, and the part of the text that is there
 abbrev pub Names : Bytes → NamePart → Part → Type 0
@@ -50,6 +50,10 @@ module _ (text : Bytes) (w : List ℕ) (fs : List Fault) (s : Listed text fs w) 
     message_at : (m : ℕ) → wrote_if m (record_message text (record_at text w i)) ≡ message_or m (nth_fault fs i)
     message_at m =
         at_some (λ o. wrote_if m (record_message text (record_at text w i)) ≡ message_or m o) fs i l (λ f e. ap (wrote_if m) (message_shown text w (s i f e)))
+
+    numbers_at : numbers_of (record_by (record_at text w i)) ≡ record_at text w i
+    numbers_at =
+        at_some (λ o. numbers_of (record_by (record_at text w i)) ≡ record_at text w i) fs i l (λ f e. numbers_shown text w (s i f e))
 
     name_at_lem : Names text (record_at text w i).name (name_of (nth_fault fs i))
     name_at_lem =
@@ -90,6 +94,10 @@ module _ {text : Bytes} {x : Reading} {w : List ℕ} {n : ℕ} (f : Finds text x
     pub message_some : i < n → (m : ℕ) → wrote_if m (record_message text (record_at text w i)) ≡ message_in i m x
     message_some =
         of_tree (λ n y. i < n → (m : ℕ) → wrote_if m (record_message text (record_at text w i)) ≡ message_in i m y) (λ t k. message_at text w (faults t) k.0 i)
+
+    -- the record of fault i has its numbers
+    pub numbers_some : i < n → numbers_of (record_by (record_at text w i)) ≡ record_at text w i
+    numbers_some = of_tree (λ n y. i < n → numbers_of (record_by (record_at text w i)) ≡ record_at text w i) (λ t k. numbers_at text w (faults t) k.0 i)
 
     name_none : n ≤ i → Names text absent (name_in i x)
     name_none = of_tree (λ n y. n ≤ i → Names text absent (name_in i y)) (λ t k l. at_none (λ o. Names text absent (name_of o)) (faults t) i l (refl, no_part text))

@@ -5,11 +5,11 @@ use Rattle.std.proofs.Math.Option.{Option, none, some}
 use Rattle.spec_text.specs.Bytes.{Bytes, part_of}
 use Rattle.spec_faults.specs.Faults.{Fault, record7, records}
 use Rattle.spec_faults.specs.Faults as F
-use Rattle.spec_faults.specs.Kinds.{kind_number}
+use Rattle.spec_faults.proofs.KindNumbers.{number_again}
 use Rattle.spec_answers.specs.Answers.{nth_fault}
 use Rattle.read_bytes.specs.declared.name_part.NamePart.{NamePart}
-use Rattle.report_records.specs.RecordsModel.{numbers, numbers32}
-use Rattle.report_records.specs.declared.Record.{Record}
+use Rattle.report_records.specs.RecordsModel.{numbers_of, record_by, numbers, numbers32}
+use Rattle.report_records.specs.declared.RecordNumbers.{RecordNumbers}
 use Rattle.report_messages.specs.MessagesModel.{record_message}
 use Rattle.find_faults.specs.Found.{Shown, Shows, Listed}
 use Rattle.serduzhap.specs.Calls.{part_says}
@@ -37,7 +37,7 @@ module _ (a b c d e f g : ℕ) (ha : a < 16) (hb : b < 4_294_967_296) (hc : c < 
   seven_small = rw (small a (omega arith), small b hb, small c hc, small d hd, small e he, small f hf, small g hg)
 
 -- ---- a record that has a fault's numbers
-module _ (text : Bytes) (r : Record) (f : Fault) (e : numbers r ≡ record7 f) where
+module _ (text : Bytes) (r : RecordNumbers) (f : Fault) (e : numbers r ≡ record7 f) where
   name_of : Shown text f.name → part_of text r.name.offset r.name.len ≡ f.name.bytes
   name_of h =
       let a : r.name.offset ≡ f.name.offset = cc in
@@ -58,10 +58,17 @@ module _ (text : Bytes) (r : Record) (f : Fault) (e : numbers r ≡ record7 f) w
 
   message_of_lem : Shown text f.name → Shown text f.in_class → record_message text r ≡ F.message_of f
   message_of_lem h i =
-      let k : kind_number r.kind ≡ f.kind = cc in
+      let k : r.kind ≡ f.kind = cc in
       ap (λ k'. F.message k' (part_of text r.name.offset r.name.len) (part_of text r.class.offset r.class.len)) k
       ∙ ap (λ n. F.message f.kind n (part_of text r.class.offset r.class.len)) (name_of h)
       ∙ ap (F.message f.kind f.name.bytes) (class_of i)
+
+  -- its record has the same numbers
+  numbers_again : 8 ≤ f.kind → f.kind < 16 → numbers_of (record_by r) ≡ r
+  numbers_again l m =
+      let k : r.kind ≡ f.kind = cc in
+      ap {B = RecordNumbers} (λ (k : ℕ). record { kind = k; start = r.start; end = r.end; name = r.name; class = r.class })
+      (number_again r.kind (omega (arith, k)) (omega (arith, k)))
 
 -- ---- an entry that shows a fault
 module _ (text : Bytes) (w : List ℕ) where
@@ -79,6 +86,9 @@ module _ (text : Bytes) (w : List ℕ) where
 
     pub message_shown : record_message text (record_at text w j) ≡ F.message_of f
     message_shown = message_of_lem text (record_at text w j) f s.record' s.name s.class
+
+    pub numbers_shown : numbers_of (record_by (record_at text w j)) ≡ record_at text w j
+    numbers_shown = numbers_again text (record_at text w j) f s.record' s.kind_least s.kind
 
   -- ---- the records of all entries
   from : (fs : List Fault) (j : ℕ) → ((i : ℕ) (f : Fault) → nth_fault fs i ≡ some f → Shows text w (j + i) f) → records_of text w j (length fs) ≡ records fs

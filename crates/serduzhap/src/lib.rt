@@ -4,6 +4,7 @@
 
 ghost use Rattle.std.specs.Prelude.{◌≡◌, ◌<◌, get_or, length};
 ghost use Rattle.spec_answers.specs.Answers.{wrote_if, name};
+ghost use Rattle.report_records.specs.RecordsModel.{numbers_of};
 ghost use Rattle.report_messages.specs.MessagesModel.{record_message};
 ghost use Rattle.serduzhap.specs.declared.ReportError.TheVariants as R;
 ghost use Rattle.serduzhap.specs.declared.MessageError.TheVariants as M;
@@ -120,7 +121,7 @@ pub fn report(text: &[u8], work: &mut [u32], out: &mut [u32]) -> Result<usize, R
 #[tactic(auto, using(crate::proofs::Over::too_long, crate::proofs::Over::fits))]
 fn write_message(text: &[u8], out: &mut [u8], r: Record) -> Result<usize, MessageError>
     requires { length text.now < 4294967296 }
-    ensures { Gives (wrote_if (length out.old) (record_message text.now r)) out.old out.new (message_says result) }
+    ensures { Gives (wrote_if (length out.old) (record_message text.now (numbers_of r))) out.old out.new (message_says result) }
 {
     let message = Message::of(text, r);
     let len = message.len();
