@@ -2,24 +2,22 @@
 use Rattle.std.specs.Prelude.{ℕ, zero, suc, ◌+◌, ◌*◌, List, [], ◌∷◌, ◌++◌, get_or}
 use Rattle.spec_text.specs.Bytes.{Bytes}
 use Rattle.spec_text.specs.Writing.{decimal_of, line_with}
-use Rattle.spec_faults.specs.Kinds.{kind_number}
-use Rattle.spec_faults.specs.KindsModel.{kind_by_number}
-use Rattle.report_records.specs.declared.Record.{Record}
+use Rattle.report_records.specs.declared.RecordNumbers.{RecordNumbers}
 use Rattle.report_messages.specs.MessagesModel.{record_message}
 
 -- the record at an index of the report
-abbrev pub record_in : List ℕ → ℕ → Record
+abbrev pub record_in : List ℕ → ℕ → RecordNumbers
 record_in ns at =
     record {
-      kind = kind_by_number (get_or ns at 0);
+      kind = get_or ns at 0;
       start = get_or ns (at + 1) 0;
       end = get_or ns (at + 2) 0;
       name = record { offset = get_or ns (at + 3) 0; len = get_or ns (at + 4) 0 };
       class = record { offset = get_or ns (at + 5) 0; len = get_or ns (at + 6) 0 };
     }
 
-abbrev pub record_line : Bytes → Record → Bytes
-record_line text r = line_with "fault" (decimal_of (kind_number r.kind) ∷ decimal_of r.start ∷ decimal_of r.end ∷ record_message text r ∷ [])
+abbrev pub record_line : Bytes → RecordNumbers → Bytes
+record_line text r = line_with "fault" (decimal_of r.kind ∷ decimal_of r.start ∷ decimal_of r.end ∷ record_message text r ∷ [])
 
 -- the lines of n records from the j-th on
 abbrev pub record_lines : Bytes → List ℕ → ℕ → ℕ → Bytes

@@ -5,14 +5,11 @@ ghost use Rattle.std.specs.Prelude.{◌≡◌, [], ◌∷◌, drop, get_or};
 ghost use Rattle.spec_answers.specs.Printed.{refused_line};
 ghost use Rattle.spec_text.specs.Writing.{decimal_of, line_with};
 ghost use Rattle.write_bytes.specs.OutputModel.{Pushed};
-ghost use Rattle.serduzhap.specs.Calls.{report_number, report_detail};
 ghost use Rattle.print_lines.specs.LinesModel.{record_in, record_line, record_lines};
 
 use read_bytes::NamePart;
 use report_messages::Message;
-use report_records::{RECORD, Record};
-use serduzhap::ReportError;
-use spec_faults::FaultKind;
+use report_records::{RECORD, RecordNumbers};
 use write_bytes::Output;
 
 // A number of the report, and 0 past its end.
@@ -24,12 +21,12 @@ fn number_at(numbers: &[u32], i: usize) -> u32
 }
 
 // The record that a part of the report begins with; a number that is not there is 0.
-// Kept: here, and no From beside `Record::put`: only what is printed is read back, and a slice may be shorter.
-fn record_of(numbers: &[u32]) -> Record
+// Kept: here, and no From beside `RecordNumbers::put`: only what is printed is read back, and a slice may be shorter.
+fn record_of(numbers: &[u32]) -> RecordNumbers
     ensures { result ≡ record_in numbers.now 0 }
 {
-    Record {
-        kind: FaultKind::by_number(number_at(numbers, 0) as usize),
+    RecordNumbers {
+        kind: number_at(numbers, 0) as usize,
         start: number_at(numbers, 1),
         end: number_at(numbers, 2),
         name: NamePart {
@@ -44,15 +41,15 @@ fn record_of(numbers: &[u32]) -> Record
 }
 
 // Pushes a fault's line: kind, start, end, message.
-fn push_fault(text: &[u8], output: &mut Output, r: Record)
+fn push_fault(text: &[u8], output: &mut Output, r: RecordNumbers)
     ensures { Pushed output.old (record_line text.now r) output.new }
 {
     output.push(b"fault");
-    output.push_number(r.kind.number());
+    output.push_number(r.kind);
     output.push_number(r.start as usize);
     output.push_number(r.end as usize);
     output.push_byte(b'\t');
-    Message::of(text, r).push(output);
+    Message::of_numbers(text, r).push(output);
     output.push_byte(b'\n');
 }
 
@@ -75,13 +72,13 @@ pub fn push_faults(text: &[u8], report: &[u32], count: usize, output: &mut Outpu
     }
 }
 
-// Pushes the line of a refusal.
-pub fn push_refused(output: &mut Output, error: ReportError)
-    ensures { Pushed output.old (refused_line (report_number error) (report_detail error)) output.new }
+// Pushes the line of a refusal: its number, and what goes with it.
+pub fn push_refused(output: &mut Output, number: usize, detail: usize)
+    ensures { Pushed output.old (refused_line number detail) output.new }
 {
     output.push(b"refused");
-    output.push_number(error.number());
-    output.push_number(error.detail());
+    output.push_number(number);
+    output.push_number(detail);
     output.push_byte(b'\n');
 }
 
