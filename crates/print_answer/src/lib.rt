@@ -25,7 +25,7 @@ fn push_printed(
             print_lines::push_faults(text, report, count, output);
             print_lines::push_count(output, count);
         }
-        Err(error) => print_lines::push_refused(output, error),
+        Err(error) => print_lines::push_refused(output, error.number(), error.detail()),
     }
 }
 
