@@ -6,7 +6,7 @@ use Rattle.spec_text.proofs.Lists.{All, all_nil, all_cons}
 use Rattle.spec_answers.specs.Answers.{Answer}
 use Rattle.read_bytes.specs.declared.name_part.NamePart.{NamePart}
 use Rattle.report_records.specs.declared.Record.{Record}
-use Rattle.report_records.specs.RecordsModel.{cut32, numbers32}
+use Rattle.report_records.specs.RecordsModel.{numbers_of, cut32, numbers32}
 use Rattle.serduzhap.specs.Calls.{check_says, report_number, report_detail, report_says, message_number, message_values, message_says, part_says}
 use Rattle.serduzhap.specs.declared.ReportError.{ReportError}
 use Rattle.serduzhap.specs.declared.MessageError.{MessageError}
@@ -46,11 +46,11 @@ uncut n old {a} {b} s l e h =
     e ∙ ap (λ k. cut32 (numbers a ++ replicate (k - length (numbers a)) 0)) l ∙ ap (λ x. cut32 (answer_of n x)) s ∙ cut_all (and_zeros (n - length (numbers b)) h)
 
 -- a record is seven numbers of an answer
-pub uncut_record : (r : Record) (old : List ℕ) {b : Answer} {new : List ℕ} → check_says (Ok (Some r)) ≡ b → length old ≡ 7 → new ≡ take (length old) (numbers32 r) ++ drop 7 old
+pub uncut_record : (r : Record) (old : List ℕ) {b : Answer} {new : List ℕ} → check_says (Ok (Some r)) ≡ b → length old ≡ 7 → new ≡ take (length old) (numbers32 (numbers_of r)) ++ drop 7 old
     → All Small (numbers b) → new ≡ answer_of 7 b
 uncut_record r old {b} {new} s l e h =
-    let seven : take (length old) (numbers32 r) ++ drop 7 old ≡ numbers32 r = rw (drop_all 7 old (omega arith), l) in
-    let all : numbers32 r ≡ cut32 (numbers (check_says (Ok (Some r))) ++ replicate (length old - 7) 0) = rw l in
+    let seven : take (length old) (numbers32 (numbers_of r)) ++ drop 7 old ≡ numbers32 (numbers_of r) = rw (drop_all 7 old (omega arith), l) in
+    let all : numbers32 (numbers_of r) ≡ cut32 (numbers (check_says (Ok (Some r))) ++ replicate (length old - 7) 0) = rw l in
     uncut 7 old s l (e ∙ (seven ∙ all)) h
 
 -- an error is two numbers of an answer: its own, and what goes with it, or 0
