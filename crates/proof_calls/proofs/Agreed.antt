@@ -173,6 +173,12 @@ pub alike : (o : Outcome) (old old' : List ℕ) {new new' : List ℕ} {n : ℕ} 
 alike o old old' {n = n} e a b = ap (take n) a ∙ begins o.writes old e ∙ sym (begins o.writes old' e) ∙ sym (ap (take n) b)
 
 -- ---- a reading is one tree or one refusal
+pub one_tree : {t t' : Tree} → tree t ≡ tree t' → t ≡ t'
+one_tree e = cc
+
+pub one_refusal : {j k m n : ℕ} → refusal j m ≡ refusal k n → (j ≡ k) × (m ≡ n)
+one_refusal e = (cc, cc)
+
 pub one_reading : {x : Reading} {k n : ℕ} {t : Tree} → x ≡ refusal k n → x ≡ tree t → ⊥
 one_reading e f = cc
 
