@@ -1,6 +1,6 @@
 -- Fields and runs. The code runs over the bytes of a class, as the digits, while a contract speaks of the field, up to the next tab or LF.
 -- So far a run and the field go together (`Run`). Where the run stops, the field is all of the class only if it ends there (`run_stop`);
--- a tab or LF there ends the field, and the run is the whole of it (`run_whole`); another byte leaves no such field (`run_broken`).
+-- a tab or LF there ends the field, and the run is the whole of it (`run_whole`); another byte leaves no such field (`broken` in Takes).
 use Rattle.std.proofs.Common.{◌≡◌, refl, sym, ◌∙◌, ℕ, zero, suc, ◌+◌, ◌-◌, ◌≤◌, ◌<◌, suc-le-suc, add-one, one-add, arith, Bool, true, false, cond, ◌&&◌, true≢false, [], ◌∷◌, length, ◌⊎◌, ⊎_elim, eq-eqb, eqb-true, drop_of_length-le, get_or, take, drop, length-drop, drop-cons, ne_eqb, Some, None, position, eqb, nat_lt, not, take_all, ltb-false, ap}
 use Rattle.std.proofs.lemmas.Option.{cond_some}
 use Rattle.std.specs.List.{position_or_len}

@@ -6,16 +6,12 @@ use Rattle.std.proofs.lemmas.Bool.{cases_lt}
 use Rattle.std.proofs.lemmas.Bool.{not-true}
 use Rattle.spec_text.specs.Bytes.{Bytes, same, all, is_digit, is_name_byte, is_name, is_number, decimal, value_of, leading_zero, longest_name}
 use Rattle.spec_text.proofs.Lists.{and_split}
-use Rattle.read_fields.specs.FieldsModel.{field, field_at, end_of, end_byte, past, past_byte, past_end, takes, field_from, number_from, name_from, hash_of, hash_from}
+use Rattle.read_fields.specs.FieldsModel.{field, field_at, end_of, end_byte, past, past_byte, past_end, next_at, takes, field_from, number_from, name_from, hash_of, hash_from}
 use Rattle.read_bytes.specs.BytesModel.{is_end}
 use Rattle.read_fields.specs.declared.Cursor.{Cursor}
 use Rattle.read_fields.specs.declared.Number.{Number}
 use Rattle.read_fields.specs.declared.Name.{Name}
 use Rattle.read_fields.proofs.Fields.{clash, digits, hash_none, field_first, field_more, Run, Whole, run_whole, run_stop}
-
--- the cursor after the byte at an offset, which ends a field
-abbrev next_at : Bytes → ℕ → Cursor
-next_at text end = record { at = end + 1; more = eqb (get_or text end 0) 9 }
 
 -- ---- a step takes a field
 pub record Taken (p : Bytes → Bool) (s : Bytes) (c : Cursor) : Type 0 where

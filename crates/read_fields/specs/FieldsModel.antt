@@ -36,6 +36,10 @@ past_byte b i = cond (is_end b) (Some (record { at = i + 1; more = eqb b 9 })) N
 abbrev pub past_end : Bytes → ℕ → Option Cursor
 past_end text i = past_byte (get_or text i 0) i
 
+-- the cursor after the byte at an offset, which ends a field
+abbrev pub next_at : Bytes → ℕ → Cursor
+next_at text end = record { at = end + 1; more = eqb (get_or text end 0) 9 }
+
 -- a step takes a field where there is one, its bytes are right, and a tab or LF ends it
 abbrev pub takes : (Bytes → Bool) → Bytes → Cursor → Bool
 takes right text c = c.more && (right (field_at text c.at) && is_end (end_byte text c.at))

@@ -2,10 +2,10 @@
 // something else.
 #![tactic(auto)]
 
-ghost use Rattle.std.specs.Prelude.{◌≡◌, ◌<◌, drop, position};
+ghost use Rattle.std.specs.Prelude.{◌≡◌, ◌<◌, ◌≤◌, drop, length, position};
 ghost use Rattle.spec_text.specs.Bytes.{same};
 ghost use Rattle.read_bytes.specs.BytesModel.{is_end};
-ghost use Rattle.read_fields.specs.FieldsModel.{field_at, start_at, field_from, number_from, hash_of, name_from, mix, end_from, past_byte, past_end};
+ghost use Rattle.read_fields.specs.FieldsModel.{field_at, start_at, field_from, number_from, hash_of, name_from, mix, end_from, past_byte, past_end, next_at};
 
 use read_bytes::NamePart;
 
@@ -127,6 +127,17 @@ fn past_end(text: &[u8], end: usize) -> Option<Cursor>
     past(*text.get(end)?, end)
 }
 
+// The cursor after the byte at an offset, which ends a field.
+pub fn next(text: &[u8], end: usize) -> Cursor
+    requires { end ≤ length text.now }
+    ensures { result ≡ next_at text.now end }
+{
+    Cursor {
+        at: end + 1,
+        more: read_bytes::byte_at(text, end) == read_bytes::TAB,
+    }
+}
+
 impl Cursor {
     // At the first field of the line that starts at an offset.
     pub fn start(at: usize) -> Cursor
@@ -187,10 +198,13 @@ impl Cursor {
             return None;
         }
         let name = rest(text, self.at);
+        if read_bytes::is_digit(read_bytes::byte_at(name, 0)) {
+            return None;
+        }
         let mut hash = 0;
         for (len, b) in name.iter().enumerate() {
             if !read_bytes::is_name_byte(*b) {
-                if len == 0 || LONGEST_NAME < len || read_bytes::is_digit(name[0]) {
+                if len == 0 || LONGEST_NAME < len {
                     return None;
                 }
                 let next = past(*b, self.at + len)?;

@@ -1,6 +1,7 @@
 -- The fields of a line, one after the other: the first, and those after it (`first_at`), at whatever offset the line stands. So the iterator
--- yields them, and what is left past the first two or three of a row is its parameters.
-use Rattle.std.proofs.Common.{◌≡◌, refl, sym, ap, ◌∙◌, Bool, true, false, cond, Option, None, Some, List, [], ◌∷◌, ℕ, zero, suc, ◌-◌, ◌+◌, ◌≤◌, ◌<◌, arith, eqb, eqb-true, length, drop, drop_of_length-le, ◌⊎◌, ⊎_elim, MatchOption, Bor}
+-- yields them, and what is left past the first two or three of a row is its parameters. A cursor stands at the first of those that it has
+-- still to take, and the others are those of the cursor after the byte that ends it (`parts_more`).
+use Rattle.std.proofs.Common.{◌≡◌, refl, sym, ap, ◌∙◌, Bool, true, false, cond, ◌||◌, Option, None, Some, List, [], ◌∷◌, ℕ, zero, suc, ◌-◌, ◌+◌, ◌≤◌, ◌<◌, arith, eqb, eqb-true, length, drop, drop-drop, drop_of_length-le, ◌⊎◌, ⊎_elim, MatchOption, Bor}
 use Rattle.std.proofs.Math.Seq.{drop-nil}
 use Rattle.std.specs.Iterator.{YieldsFirstRef, MakesProgress, item_count}
 use Rattle.std.specs.List.{slice_range}
@@ -8,11 +9,15 @@ use Rattle.std.proofs.lemmas.List.{drop-map}
 use Rattle.std.proofs.lemmas.Slice.{between_to_end}
 use Rattle.spec_text.specs.Bytes.{Bytes, Part}
 use Rattle.spec_text.specs.Lines.{cut}
-use Rattle.read_fields.specs.FieldsModel.{field, field_at}
+use Rattle.read_fields.specs.FieldsModel.{start_at, field, field_at, end_of, end_byte, next_at}
+use Rattle.read_fields.specs.declared.Cursor.{Cursor}
+use Rattle.read_fields.proofs.Fields.{field_within}
+use Rattle.read_line.proofs.Cut.{to_come, field_of, before, stop, unroll}
 use Rattle.work_rows.specs.Layout.{kind_at, offset_at}
-use Rattle.read_row.specs.RowModel.{before_params, params_of}
+use Rattle.read_row.specs.RowModel.{parts_from, before_params, params_of}
 use Rattle.read_row.specs.Left.{bytes_of, fields_of, left_in, fields_left, fields_after}
 use Rattle.read_row.specs.declared.Fields.{Fields}
+use Rattle.read_row.proofs.Runs.{cut_at}
 
 -- ---- a byte more in the first field
 byte_more : (o b : ℕ) (bs : Bytes) (x : Bytes) (xs : List Bytes) (fs : List Part) → eqb b 10 ≡ false → eqb b 9 ≡ false → (cut (suc o) bs).fields ≡ fs
@@ -78,3 +83,50 @@ pub field_passed : (n k : ℕ) (s t : Fields) (r : Option (Bor Bytes)) → k < n
     → drop (n - (k + 1)) (fields_left t) ≡ drop (n - k) (fields_left s)
 field_passed n k s t r l h =
     let e : suc (n - (k + 1)) ≡ n - k = omega arith in passed (n - (k + 1)) s t r h ∙ ap (λ i. drop i (fields_left s)) e
+
+-- ---- the fields of a line, from an offset on
+pub fields_more : (text : Bytes) (at : ℕ) → (cut_at text at).fields ≡ field_of text at ∷ parts_from text (next_at text (end_of text at))
+fields_more text at = rw (unroll text at) (go (eqb (end_byte text at) 9) (eqb (end_byte text at) 10))
+  where
+    go : (t f : Bool) → (let c : Cursor = record { at = end_of text at + 1; more = t } in
+        (cond (t || f) (before (field_of text at) (to_come text c)) (stop (field_of text at))).fields ≡ field_of text at ∷ parts_from text c)
+    go true f = refl
+    go false true = refl
+    go false false = refl
+
+pub parts_more : (text : Bytes) (c : Cursor) → c.more ≡ true
+    → parts_from text c ≡ record { offset = c.at; bytes = field_at text c.at } ∷ parts_from text (next_at text (c.at + length (field_at text c.at)))
+parts_more text c h = ap (λ (t : Bool). cond t (cut_at text c.at).fields []) h ∙ fields_more text c.at
+
+-- ---- the cursor after a field
+-- a field ends inside the text
+pub end_inside : (text : Bytes) (at : ℕ) → at ≤ length text → end_of text at ≤ length text
+end_inside text at l = omega (arith, field_within text at)
+
+-- those that come after a field are those of the cursor after it
+pub parts_after : (text : Bytes) (c d : Cursor) (x : Bytes) → c.more ≡ true → x ≡ field_at text c.at → d ≡ next_at text (c.at + length x)
+    → parts_from text d ≡ drop 1 (parts_from text c)
+parts_after text c d x m e f =
+    ap (λ (b : Cursor). parts_from text b) (f ∙ ap (λ (y : Bytes). next_at text (c.at + length y)) e) ∙ sym (ap (drop 1) (parts_more text c m))
+
+-- ---- the cursor passes the fields before the parameters of row i, n of them
+pub some_before : (n kind : ℕ) → n ≡ before_params kind → 0 < n
+some_before n kind e = rw e (go (eqb kind 28))
+  where
+    go : (t : Bool) → 0 < cond t 3 2
+    go true = omega arith
+    go false = omega arith
+
+pub parts_start : (text : Bytes) (w : List ℕ) (i n : ℕ) (c : Cursor) → c ≡ start_at (offset_at w i) → n ≡ before_params (kind_at w i)
+    → drop (n - 0) (parts_from text c) ≡ params_of text w i
+unfolding params_of
+parts_start text w i n c e f = let k : n - 0 ≡ n = omega arith in rw (k, e, f)
+
+-- a field is passed
+pub part_passed : (n k : ℕ) (a b : List Part) → k < n → b ≡ drop 1 a → drop (n - (k + 1)) b ≡ drop (n - k) a
+part_passed n k a b l e =
+    let m : 1 + (n - (k + 1)) ≡ n - k = omega arith in
+    ap (drop (n - (k + 1))) e ∙ drop-drop (n - (k + 1)) 1 a ∙ ap (λ (j : ℕ). drop j a) m
+
+pub parts_left : (n k : ℕ) (a : List Part) → n ≤ k → drop (n - k) a ≡ a
+parts_left n k a l = let z : n - k ≡ 0 = omega arith in rw z

@@ -1,6 +1,6 @@
 -- The parameters of a line, found again from what its row keeps: where its name starts, or the line if it has none.
 -- The fields from any field of a line on are the last fields of that line; a line's parameters are its last fields, by the table of words.
-use Rattle.std.proofs.Common.{ℕ, zero, suc, ◌+◌, ◌<◌, arith, ◌≡◌, refl, sym, ap, subst, ◌∙◌, Bool, true, false, cond, ◌||◌, List, [], ◌∷◌, eqb, length, get_or, drop, drop-drop}
+use Rattle.std.proofs.Common.{ℕ, zero, suc, ◌+◌, ◌<◌, arith, ◌≡◌, refl, sym, ap, subst, ◌∙◌, Bool, true, false, cond, List, [], ◌∷◌, eqb, length, get_or, drop, drop-drop}
 use Rattle.std.proofs.Math.Option.{Option, none, some}
 use Rattle.std.proofs.Math.ListN.{get_elem?}
 use Rattle.spec_text.specs.Bytes.{Bytes, Part, no_part, same}
@@ -12,19 +12,7 @@ use Rattle.read_row.specs.RowModel.{params_at}
 use Rattle.read_row.specs.Worded.{Some}
 use Rattle.read_row.proofs.FormWords.{named}
 use Rattle.read_row.proofs.Runs.{cut_at, Stands}
-use Rattle.read_line.proofs.Cut.{to_come, field_of, before, stop, unroll}
-use Rattle.read_fields.specs.declared.Cursor.{Cursor}
-
--- ---- the fields of a line, from an offset on
-fields_more : (text : Bytes) (at : ℕ)
-    → (cut_at text at).fields ≡ field_of text at ∷ cond (eqb (end_byte text at) 9) (cut_at text (end_of text at + 1)).fields []
-fields_more text at = rw (unroll text at) (go (eqb (end_byte text at) 9) (eqb (end_byte text at) 10))
-  where
-    go : (t f : Bool) → (let c : Cursor = record { at = end_of text at + 1; more = t } in
-        (cond (t || f) (before (field_of text at) (to_come text c)) (stop (field_of text at))).fields ≡ field_of text at ∷ cond t (cut_at text c.at).fields [])
-    go true f = refl
-    go false true = refl
-    go false false = refl
+use Rattle.read_row.proofs.FieldsLeft.{fields_more}
 
 -- ---- the fields from field k on, where there are fields from an offset on
 from_field : (k : ℕ) (more : Bool) (text : Bytes) (at : ℕ) → let fs = cond more (cut_at text at).fields [] in

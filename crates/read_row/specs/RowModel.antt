@@ -1,11 +1,16 @@
 -- The line of a row, read again from the text: its span and name, and its parameters. A row keeps where its name starts, or its line if it
 -- has no name.
-use Rattle.std.specs.Prelude.{ℕ, zero, suc, cond, List, eqb, get_or, drop, unwrap_or}
+use Rattle.std.specs.Prelude.{ℕ, zero, suc, cond, List, [], eqb, get_or, drop, unwrap_or}
 use Rattle.spec_text.specs.Bytes.{Bytes, Part}
 use Rattle.spec_text.specs.Lines.{cut}
+use Rattle.read_fields.specs.declared.Cursor.{Cursor}
 use Rattle.read_line.specs.LineModel.{line_at, no_line}
 use Rattle.read_line.specs.declared.Line.{Line}
 use Rattle.work_rows.specs.Layout.{kind_at, offset_at}
+
+-- the fields that a cursor has still to take
+abbrev pub parts_from : Bytes → Cursor → List Part
+parts_from text c = cond c.more (cut c.at (drop c.at text)).fields []
 
 -- the parameters of a line, by its kind and what its row keeps: of 28, a lambda, after the word and the span; of a def or method, after the name
 -- and the count

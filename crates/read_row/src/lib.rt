@@ -1,11 +1,12 @@
 // Reads the line of a row again: its span and its name, and its parameters one after the other.
 #![tactic(auto)]
 
-ghost use Rattle.std.specs.Prelude.{◌≡◌, drop};
+ghost use Rattle.std.specs.Prelude.{◌≡◌, true, ◌≤◌, drop, length};
 ghost use Rattle.std.specs.Iterator.{YieldsFirstRef, item_count};
-ghost use Rattle.read_row.specs.RowModel.{before_params, params_of, line_start, line_of_row};
+ghost use Rattle.read_row.specs.RowModel.{parts_from, before_params, params_of, line_start, line_of_row};
 ghost use Rattle.read_row.specs.Left.{bytes_of, left_in, fields_left, fields_after};
 
+use read_fields::Cursor;
 use read_line::Line;
 use spec_text::line_kind;
 
@@ -62,6 +63,32 @@ pub fn params<'a>(text: &'a [u8], work: &[u32], i: usize) -> Fields<'a>
         fields.next();
     }
     fields
+}
+
+// The cursor past the field where it stands, if it stands at one.
+fn past_field(text: &[u8], c: Cursor) -> Cursor
+    ensures parts { parts_from text.now result ≡ drop 1 (parts_from text.now c) }
+    ensures within { result.more ≡ true → result.at ≤ length text.now }
+{
+    if c.more && c.at <= text.len() {
+        let field = read_fields::field(text, c.at);
+        read_fields::next(text, c.at + field.len())
+    } else {
+        Cursor { more: false, ..c }
+    }
+}
+
+// The cursor at the first parameter of row i, for who asks where its parameters stand: `params` has their bytes alone.
+pub fn first_param(text: &[u8], work: &[u32], i: usize) -> Cursor
+    ensures parts { parts_from text.now result ≡ params_of text.now work.now i }
+    ensures within { result.more ≡ true → result.at ≤ length text.now }
+{
+    let fields = before_params(work_rows::kind(work, i));
+    let mut c = Cursor::start(work_rows::offset(work, i));
+    for _ in 0..fields {
+        c = past_field(text, c);
+    }
+    c
 }
 
 // Where the line starts that an offset is on: past the last line feed before it.

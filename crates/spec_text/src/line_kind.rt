@@ -57,3 +57,6 @@ pub const TREESET: usize = 26;
 pub const DICT: usize = 27;
 
 pub const LAMBDA: usize = 28;
+
+// How many there are.
+pub const COUNT: usize = 29;

@@ -77,7 +77,7 @@ impl<'a> Output<'a> {
 
     // Pushes a number of at most so many digits.
     // Kept: a contract says what `write!` wrote only to a String, on the heap; and Display writes any number of digits.
-    fn push_digits(&mut self, left: usize, n: usize)
+    pub fn push_digits(&mut self, left: usize, n: usize)
         ensures { Pushed self.old (digits left n) self.new }
     {
         if left == 0 {

@@ -1,4 +1,4 @@
--- Where the loop stops, the field is a name only if it ends there.
+-- A name begins with no digit; where the loop stops, the field is a name only if it ends there.
 use Rattle.std.proofs.Common.{◌≡◌, ap, ◌∙◌, sym, ℕ, ◌+◌, get_or, false, true}
 use Rattle.std.proofs.lemmas.Bool.{not-false}
 use Rattle.spec_text.specs.Bytes.{is_name_byte}
@@ -6,7 +6,10 @@ use Rattle.read_fields.specs.FieldsModel.{field_at, hash_from}
 use Rattle.read_fields.proofs.Fields.{name_bytes, field_more, run_more, hash_more}
 use Rattle.read_fields.proofs.Takes.{name_empty, name_long, name_digit, name_taken}
 use Rattle.read_fields.proofs.Cursor.name.Goals as goal
-use Rattle.read_fields.proofs.Cursor.name.Goals.{then-len-eq0-via-then-len-eq0, then-len-eq0-via-else-len-eq0+then-len-gt-LONGEST_NAME, then-len-eq0-via-else-len-eq0+else-len-gt-LONGEST_NAME+then-is_digit}
+use Rattle.read_fields.proofs.Cursor.name.Goals.{then-len-eq0-via-then-len-eq0, then-len-eq0-via-else-len-eq0+then-len-gt-LONGEST_NAME}
+
+pub returns-then-is_digit : goal.returns-then-is_digit
+returns-then-is_digit c = name_digit c.args.text.now _ c.args.self c.rest-name.ensures cc
 
 pub returns-then-len-eq0 : goal.returns-then-len-eq0
 returns-then-len-eq0 c =
@@ -14,7 +17,6 @@ returns-then-len-eq0 c =
     elim c.then-len-eq0.branch [
       | then-len-eq0-via-then-len-eq0 w ↦ name_empty c.args.text.now _ c.args.self c.rest-name.ensures _ c.loop-len.invariant.0 stop w.if-len-eq0.true
       | then-len-eq0-via-else-len-eq0+then-len-gt-LONGEST_NAME w ↦ name_long c.args.text.now _ c.args.self c.rest-name.ensures _ c.loop-len.invariant.0 stop w.if-len-gt-LONGEST_NAME.true
-      | then-len-eq0-via-else-len-eq0+else-len-gt-LONGEST_NAME+then-is_digit w ↦ name_digit c.args.text.now _ c.args.self c.rest-name.ensures cc
     ]
 
 pub returns-then-not-is_name_byte : goal.returns-then-not-is_name_byte
