@@ -40,4 +40,4 @@ pushed_due i c d x = cond (is_leaf c) x (pushed_below i c d x)
 
 -- one of the lines of the entry e, which is on top, is taken
 unfoldable pub lessened : ℕ → Stack → Stack
-lessened e x = cond (leb (e / 1_024) 1) (stack x.work (x.top - 1)) (stack (put x.work (agenda_base + (x.top - 1)) (e - 1_024)) (x.top - 1 + 1))
+lessened e x = cond (leb (e / 1_024) 1) (stack x.work (x.top - 1)) (stack (put x.work (agenda_base + x.top - 1) (e - 1_024)) x.top)

@@ -5,7 +5,7 @@ ghost use Rattle.read_agenda.specs.StackModel.{agenda_base, stack, pushed_below,
 ghost use Rattle.read_agenda.specs.Entries.{due_word, OnTop, written, pushed_lines};
 ghost use Rattle.read_agenda.specs.LentModel.{stack_of, Leaves};
 
-use crate::{Due, Entry};
+use crate::{Due, Entry, LEVELS};
 use read_words::Children;
 use spec_text::Sort;
 
@@ -105,16 +105,26 @@ impl<'a> Agenda<'a> {
         self.top = self.top.saturating_sub(1);
     }
 
-    // One of the lines on top is taken.
-    #[tactic(auto, unfolding(crate::specs::StackModel::lessened, crate::specs::StackModel::pushed))]
-    pub fn one_less(&mut self, due: Due)
-        ensures { Leaves self.old (lessened (due_word due) (stack_of self.old)) (self.old.top - 1 + 1) self.new }
+    // One of the lines of the entry with this number, which is on top, is taken.
+    #[tactic(auto, unfolding(crate::specs::StackModel::lessened))]
+    pub fn one_less_of(&mut self, number: usize)
+        ensures { Leaves self.old (lessened number (stack_of self.old)) self.old.top self.new }
     {
-        self.pop();
-        self.push(Due {
-            sort: due.sort,
-            levels: due.levels,
-            count: due.count.saturating_sub(1),
-        });
+        if number / LEVELS <= 1 {
+            self.pop();
+            return;
+        }
+        work_rows::put(
+            self.work,
+            AGENDA_BASE.saturating_add(self.top) - 1,
+            number - LEVELS,
+        );
+    }
+
+    // One of the lines on top is taken.
+    pub fn one_less(&mut self, due: Due)
+        ensures { Leaves self.old (lessened (due_word due) (stack_of self.old)) self.old.top self.new }
+    {
+        self.one_less_of(due.number());
     }
 }

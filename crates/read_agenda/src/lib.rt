@@ -3,7 +3,7 @@
 
 ghost use Rattle.std.specs.Prelude.{◌≡◌, ◌%◌, ◌<◌, MatchOption};
 ghost use Rattle.spec_text.specs.SortsModel.{sort_number};
-ghost use Rattle.read_agenda.specs.Entries.{entry_word, IsEntry};
+ghost use Rattle.read_agenda.specs.Entries.{due_word, entry_word, IsEntry};
 
 mod agenda;
 mod due;
@@ -46,13 +46,22 @@ fn sort_of(number: usize) -> Option<Sort>
     }
 }
 
+impl Due {
+    // All of it: a `Due` is in range.
+    fn number(self) -> usize
+        ensures { result ≡ due_word self }
+    {
+        self.sort.number() + SORTS * self.levels + LEVELS * self.count
+    }
+}
+
 impl Entry {
     // 32 bits of it are written, so that the sum may wrap.
     fn number(self) -> usize
         ensures { result % 4294967296 ≡ entry_word self % 4294967296 }
     {
         match self {
-            Entry::Due(due) => due.sort.number() + SORTS * due.levels + LEVELS * due.count,
+            Entry::Due(due) => due.number(),
             Entry::Close(row) => CLOSE.wrapping_add(LEVELS.wrapping_mul(row)),
         }
     }

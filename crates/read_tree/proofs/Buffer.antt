@@ -127,6 +127,15 @@ module _ {text : Bytes} {rows : List Row} where
   pub pop_held : {e : Entry} {under : List Entry} {w : List ℕ} {top : ℕ} → Held text rows (e ∷ under) (stack w top) → Held text rows under (stack w (top - 1))
   pop_held h = record { top = omega (arith, h.top); entries = under_of h.entries; kinds = h.kinds; holds = h.holds }
 
+  -- another entry is put in its place
+  put_again : {e f : Entry} {under : List Entry} {w : List ℕ} {top : ℕ} (v : ℕ) → v ≡ word_of f → Fits (length rows) (length under) f
+      → Held text rows (e ∷ under) (stack w top) → Held text rows (f ∷ under) (stack (put w (agenda_base + top - 1) v) top)
+  put_again {f} {under} {w} {top} v is fits h =
+      let i : agenda_base + (top - 1) ≡ agenda_base + top - 1 = omega (arith, h.top) in
+      let j : top - 1 + 1 ≡ top = omega (arith, h.top) in
+      subst (λ z. Held text rows (f ∷ under) (stack (put w z v) top)) i
+      (subst (λ z. Held text rows (f ∷ under) (stack (put w (agenda_base + (top - 1)) v) z)) j (put_held v is fits (pop_held h)))
+
   -- ---- the machine's own steps
   pub pushed_held : (s n d : ℕ) {under : List Entry} {x : Stack} → s < 7 → n ≤ 16_384 → length under + 8 * d ≤ 514 → Held text rows under x
       → Held text rows (due s n d under) (pushed s n d x)
@@ -149,7 +158,7 @@ module _ {text : Bytes} {rows : List Row} where
       let q : Due s (suc (suc n)) d (length under) = fits_due (fits_on h.entries) in
       let e = run_word s (suc (suc n)) d in
       rw (lt-leb (e / 1_024) 1 (omega (arith, q.sort, q.short)))
-      (put_held (e - 1_024) (omega arith) (fits_run q.sort (omega arith) (omega (arith, q.few)) q.short) (pop_held h))
+      (put_again (e - 1_024) (omega arith) (fits_run q.sort (omega arith) (omega (arith, q.few)) q.short) h)
 
   -- a row is to be closed when what is due below it is read
   push : (s n d : ℕ) {k : ℕ} {under : List Entry} {x : Stack} → s < 7 → n ≤ 16_384 → k + 8 * d ≤ 514 → Low text rows k under x
