@@ -20,7 +20,6 @@ pub struct Scope {
 }
 
 impl Scope {
-    ghost use Rattle.work_rows.specs.Layout.{after_row};
     ghost use Rattle.walk_scopes.specs.ScopesModel.{scope_of, top_of, in_lambda, owns, defined};
 
     // Outside of lambdas.
@@ -30,12 +29,14 @@ impl Scope {
         Scope { top, lambdas: None }
     }
 
-    // In the lambda at row i as well: the outermost is kept.
-    pub fn in_lambda(&self, work: &[u32], i: usize) -> Scope
-        requires { i < 4294967296 }
-        ensures { scope_of result ≡ in_lambda (scope_of self.now) (after_row work.now i) }
+    // In a lambda up to the row `end` as well: the outermost is kept. No lambda ends at row 0.
+    pub fn in_lambda(&self, end: usize) -> Scope
+        ensures inside { 0 < end → scope_of result ≡ in_lambda (scope_of self.now) end }
+        ensures nowhere { end ≡ 0 → result ≡ self.now }
     {
-        let end = work_rows::after_row(work, i);
+        if end == 0 {
+            return *self;
+        }
         let outer = self.lambdas.map_or(end, |l| l.outer);
         Scope {
             top: self.top,

@@ -102,7 +102,7 @@ impl<'a> Walker<'a> {
                 self.exprs(left - 1, scope, rest, stop)
             }
             line_kind::LAMBDA => {
-                let inner = scope.in_lambda(work, i);
+                let inner = scope.in_lambda(stop);
                 walk_blocks::enter_block(self.text, work, &inner, i, stop);
                 self.line(left - 1, &inner, i + 1)
             }

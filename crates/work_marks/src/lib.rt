@@ -91,19 +91,26 @@ pub fn raise_block(work: &mut [u32], name: usize, end: usize)
     BLOCK_END.raise(work, name, end)
 }
 
+// The slot of row i: the number of its fault's kind, or 0.
+pub fn slot(work: &[u32], i: usize) -> usize
+    ensures { result ≡ slot_at work.now i }
+{
+    SLOT.get(work, i)
+}
+
 // Whether row i has a fault: whether its slot has a number.
 // Kept: apart from `fault`, since what is asked is whether a slot has any number (`any_fault`).
 pub fn has_fault(work: &[u32], i: usize) -> bool
     ensures { result ≡ not (eqb (slot_at work.now i) 0) }
 {
-    SLOT.get(work, i) != 0
+    slot(work, i) != 0
 }
 
 // The kind of row i's fault, if its slot has the number of a kind.
 pub fn fault(work: &[u32], i: usize) -> Option<FaultKind>
     ensures { result ≡ fault_of (slot_at work.now i) }
 {
-    match SLOT.get(work, i) {
+    match slot(work, i) {
         number @ 8..=15 => Some(FaultKind::by_number(number)),
         _ => None,
     }
