@@ -10,7 +10,7 @@ use read_words::Children;
 use spec_text::Sort;
 
 // Where the agenda stands.
-const AGENDA_BASE: usize = 12288;
+pub const AGENDA_BASE: usize = 12288;
 
 // Whether nothing is due below a line.
 #[tactic(auto, unfolding(crate::specs::StackModel::is_leaf))]

@@ -8,19 +8,19 @@ ghost use Rattle.read_agenda.specs.Entries.{due_word, entry_word, IsEntry};
 mod agenda;
 mod due;
 
-pub use agenda::Agenda;
+pub use agenda::{AGENDA_BASE, Agenda};
 pub use due::Due;
 use spec_text::Sort;
 
 // An entry's number is a sort, SORTS times the levels left, and LEVELS times how many lines are due;
 // or CLOSE and LEVELS times a row.
-const SORTS: usize = 8;
+pub const SORTS: usize = 8;
 
-const DEPTHS: usize = 128;
+pub const DEPTHS: usize = 128;
 
-const LEVELS: usize = 1024;
+pub const LEVELS: usize = 1024;
 
-const CLOSE: usize = 7;
+pub const CLOSE: usize = 7;
 
 // An entry of the agenda: lines that are due, or a row to close, since all below it has been read by then.
 #[derive(Clone, Copy, PartialEq, Eq)]

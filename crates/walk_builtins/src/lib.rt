@@ -11,10 +11,10 @@ ghost use Rattle.walk_builtins.specs.Cut.{names_left, IsCut};
 
 // The names, one after the other: print, input, int, bool, str, len, range, float, assert, map, filter, set, treeset.
 // Kept: bytes and lengths, in place of a list of texts: the constant table is a named form of the project.
-const BYTES: &[u8] = b"printinputintboolstrlenrangefloatassertmapfiltersettreeset";
+pub const BYTES: &[u8] = b"printinputintboolstrlenrangefloatassertmapfiltersettreeset";
 
 // The length of each.
-const LENGTHS: &[u8] = &[5, 5, 3, 4, 3, 3, 5, 5, 6, 3, 6, 3, 7];
+pub const LENGTHS: &[u8] = &[5, 5, 3, 4, 3, 3, 5, 5, 6, 3, 6, 3, 7];
 
 // The names that lengths cuts from bytes.
 #[derive(Drop)]

@@ -21,7 +21,7 @@ pub const HEAD_END: usize = 12288;
 // `same`.
 pub const LINE_KINDS: usize = 32;
 
-const OFFSETS: usize = 65536;
+pub const OFFSETS: usize = 65536;
 
 // What stands above a row's offset: the earliest row that has its name; or, where this row is the earliest, the next row
 // in the chain of the names that have its hash.
