@@ -10,6 +10,9 @@ use std::io::Read;
 use std::{fmt, io};
 use write_bytes::Output;
 
+// The most bytes of a text that frames make.
+const LONGEST: usize = 70000;
+
 // A frame: a letter and two numbers.
 #[derive(Clone, Copy, PartialEq, Eq)]
 pub struct Frame {
@@ -72,7 +75,7 @@ pub fn replay<R: Read, F: FnMut(Frame, &[u8]) -> io::Result<()>>(
 {
     let mut all = [0u8; 262144];
     let n = program_input::read_full(from, &mut all)?;
-    let mut buffer = [0u8; 70000];
+    let mut buffer = [0u8; LONGEST];
     let mut text = Output::new(&mut buffer);
     let mut rest = &all[..n];
     while let Some((frame, after)) = first_frame(rest) {
@@ -86,7 +89,8 @@ pub fn replay<R: Read, F: FnMut(Frame, &[u8]) -> io::Result<()>>(
             }
             b'r' => {
                 let (bytes, next) = part(after, frame.b as usize);
-                for _ in 0..frame.a {
+                // Copies past those that fill the text add nothing.
+                for _ in 0..frame.a.min(LONGEST as u32) {
                     text.push(bytes);
                 }
                 rest = next;
