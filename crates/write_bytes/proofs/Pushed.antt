@@ -1,7 +1,8 @@
 -- Bytes that are pushed one part after the other are pushed at once; and what is copied at once is pushed.
-use Rattle.std.proofs.Common.{ℕ, zero, suc, ◌+◌, ◌-◌, ◌≤◌, ◌≡◌, min, List, [], ◌∷◌, ◌++◌, length, take, drop, refl, sym, ap, ◌∙◌, arith, append_assoc, add-zero, length-append}
+use Rattle.std.proofs.Common.{ℕ, zero, suc, ◌+◌, ◌-◌, ◌≤◌, ◌<◌, ◌≡◌, min, List, [], ◌∷◌, ◌++◌, length, take, drop, set, get_or, refl, sym, ap, ◌∙◌, arith, append_assoc, zero-add, add-zero, length-append}
 use Rattle.std.proofs.Math.Seq.{take-nil, take-append_seam, drop-append-add, drop-drop}
 use Rattle.std.proofs.lemmas.List.{take_min, length-take, length-drop, take-append-drop}
+use Rattle.std.proofs.lemmas.List.Edits.{paste_more}
 use Rattle.write_bytes.specs.declared.Output.{Output}
 use Rattle.write_bytes.specs.PushModel.{fitting, bytes_pushed, pushed_to, Pushes}
 use Rattle.write_bytes.specs.OutputModel.{Pushed}
@@ -74,6 +75,14 @@ push_more : (old : List ℕ) (at : ℕ) (new more : List ℕ) {mid out : List �
     → at ≤ length old → Pushes old at new mid to → Pushes mid to more out end → Pushes old at (new ++ more) out end
 push_more old at new more h p q =
     (q.0 ∙ rw (p.0, p.1) (pushed_more old new more at h), q.1 ∙ rw (p.0, p.1) (to_more old new more at h), q.2)
+
+-- a turn of a loop that copies
+pub copied_more : (new part : List ℕ) (i : ℕ) → i < length part → i < length new
+    → set (take i new ++ drop i part) i (get_or new i 0) ≡ take (i + 1) new ++ drop (i + 1) part
+copied_more new part i p q =
+    let at : 0 + i < length part = omega arith in
+    let more : set (take i new ++ drop (0 + i) part) (0 + i) (get_or new i 0) ≡ take (i + 1) new ++ drop (0 + (i + 1)) part = paste_more part 0 new i 0 at q in
+    simp zero-add at more
 
 -- ---- a push at once: n bytes, as many as fit, are copied over those from `at` on
 module _ (old new : List ℕ) (at n : ℕ) (inside : at ≤ length old) (fit : n ≡ min (length old - at) (length new)) where

@@ -64,7 +64,10 @@ impl<'a> Output<'a> {
         ensures { Pushed self.old bytes.now self.new }
     {
         let fit = (self.bytes.len() - self.len).min(bytes.len());
-        self.bytes[self.len..self.len + fit].copy_from_slice(&bytes[..fit]);
+        // Kept: a loop, since a copy of a slice would be memmove in the machine code, which a board would have to link.
+        for (i, to) in self.bytes[self.len..self.len + fit].iter_mut().enumerate() {
+            *to = bytes[i];
+        }
         self.len += fit;
     }
 
