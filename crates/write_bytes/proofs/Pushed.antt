@@ -1,4 +1,4 @@
--- Bytes that are pushed one part after the other are pushed at once; and what is copied at once is pushed.
+-- Bytes that are pushed one part after the other are pushed at once; and what is copied is pushed.
 use Rattle.std.proofs.Common.{ℕ, zero, suc, ◌+◌, ◌-◌, ◌≤◌, ◌<◌, ◌≡◌, min, List, [], ◌∷◌, ◌++◌, length, take, drop, set, get_or, refl, sym, ap, ◌∙◌, arith, append_assoc, zero-add, add-zero, length-append}
 use Rattle.std.proofs.Math.Seq.{take-nil, take-append_seam, drop-append-add, drop-drop}
 use Rattle.std.proofs.lemmas.List.{take_min, length-take, length-drop, take-append-drop}
@@ -76,7 +76,7 @@ push_more : (old : List ℕ) (at : ℕ) (new more : List ℕ) {mid out : List �
 push_more old at new more h p q =
     (q.0 ∙ rw (p.0, p.1) (pushed_more old new more at h), q.1 ∙ rw (p.0, p.1) (to_more old new more at h), q.2)
 
--- a turn of a loop that copies
+-- ---- a turn of a loop that copies
 pub copied_more : (new part : List ℕ) (i : ℕ) → i < length part → i < length new
     → set (take i new ++ drop i part) i (get_or new i 0) ≡ take (i + 1) new ++ drop (i + 1) part
 copied_more new part i p q =
@@ -84,7 +84,7 @@ copied_more new part i p q =
     let more : set (take i new ++ drop (0 + i) part) (0 + i) (get_or new i 0) ≡ take (i + 1) new ++ drop (0 + (i + 1)) part = paste_more part 0 new i 0 at q in
     simp zero-add at more
 
--- ---- a push at once: n bytes, as many as fit, are copied over those from `at` on
+-- ---- a push by a copy: n bytes, as many as fit, are copied over those from `at` on
 module _ (old new : List ℕ) (at n : ℕ) (inside : at ≤ length old) (fit : n ≡ min (length old - at) (length new)) where
   copied : take n new ≡ fitting old at new
   copied = rw fit (take_min (length old - at) new)
