@@ -197,10 +197,10 @@ impl Cursor {
         if !self.more {
             return None;
         }
-        let name = rest(text, self.at);
-        if read_bytes::is_digit(read_bytes::byte_at(name, 0)) {
+        if read_bytes::is_digit(read_bytes::byte_at(text, self.at)) {
             return None;
         }
+        let name = rest(text, self.at);
         let mut hash = 0;
         for (len, b) in name.iter().enumerate() {
             if !read_bytes::is_name_byte(*b) {

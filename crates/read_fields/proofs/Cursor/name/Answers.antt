@@ -1,15 +1,23 @@
 -- A name begins with no digit; where the loop stops, the field is a name only if it ends there.
-use Rattle.std.proofs.Common.{◌≡◌, ap, ◌∙◌, sym, ℕ, ◌+◌, get_or, false, true}
+use Rattle.std.proofs.Common.{◌≡◌, refl, ap, ◌∙◌, sym, ℕ, ◌+◌, arith, get_or, drop, get_or-drop, false, true}
 use Rattle.std.proofs.lemmas.Bool.{not-false}
-use Rattle.spec_text.specs.Bytes.{is_name_byte}
+use Rattle.spec_text.specs.Bytes.{Bytes, is_digit, is_name_byte}
 use Rattle.read_fields.specs.FieldsModel.{field_at, hash_from}
 use Rattle.read_fields.proofs.Fields.{name_bytes, field_more, run_more, hash_more}
 use Rattle.read_fields.proofs.Takes.{name_empty, name_long, name_digit, name_taken}
 use Rattle.read_fields.proofs.Cursor.name.Goals as goal
 use Rattle.read_fields.proofs.Cursor.name.Goals.{then-len-eq0-via-then-len-eq0, then-len-eq0-via-else-len-eq0+then-len-gt-LONGEST_NAME}
 
+-- the first byte of what is left of the text
+first_left : (text : Bytes) (at : ℕ) → get_or (drop at text) 0 0 ≡ get_or text at 0
+first_left text at =
+    let e : at + 0 ≡ at = omega arith in
+    get_or-drop at text 0 0 ∙ ap (λ (k : ℕ). get_or text k 0) e
+
 pub returns-then-is_digit : goal.returns-then-is_digit
-returns-then-is_digit c = name_digit c.args.text.now _ c.args.self c.rest-name.ensures cc
+returns-then-is_digit c =
+    let digit : is_digit (get_or c.args.text.now c.args.self.at 0) ≡ true = cc in
+    name_digit c.args.text.now _ c.args.self refl (ap is_digit (first_left c.args.text.now c.args.self.at) ∙ digit)
 
 pub returns-then-len-eq0 : goal.returns-then-len-eq0
 returns-then-len-eq0 c =
@@ -21,8 +29,10 @@ returns-then-len-eq0 c =
 
 pub returns-then-not-is_name_byte : goal.returns-then-not-is_name_byte
 returns-then-not-is_name_byte c =
+    let none : is_digit (get_or c.args.text.now c.args.self.at 0) ≡ false = cc in
+    let first = ap (λ (x : Bytes). get_or x 0 0) c.rest-name.ensures ∙ first_left c.args.text.now c.args.self.at in
     name_taken c.args.text.now _ c.args.self c.rest-name.ensures _ _ c.in_ok-next.next (not-false _ c.if-not-self.false) c.loop-len.invariant.0 c.loop-len.invariant.2
-    c.if-len-eq0.false c.if-len-gt-LONGEST_NAME.false (cc) (sym c.past.ensures ∙ c.in_ok-next.was)
+    c.if-len-eq0.false c.if-len-gt-LONGEST_NAME.false (ap is_digit first ∙ none) (sym c.past.ensures ∙ c.in_ok-next.was)
 
 pub loop-len-preserved : goal.loop-len-preserved
 loop-len-preserved c =
